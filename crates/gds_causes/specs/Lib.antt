@@ -1,0 +1,2 @@
+-- What a source, a sink and their counts of faults tell.
+pub mod Faults

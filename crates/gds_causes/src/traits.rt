@@ -1,0 +1,56 @@
+// The two traits of the outside, and `write_all` over any sink.
+ghost use Rattle.std.specs.Prelude.{ℕ, List, Option, ◌<◌, ◌≤◌, length, IfOk, OnErr};
+ghost use Rattle.std.specs.Io.KnownBytes.{Keeps, ReadConsumes, WriteAppends};
+ghost use Rattle.gds_causes.specs.Faults.{Rose};
+
+/// A read, a write or a flush failed. The count of faults of the object that was asked rose in that call.
+#[derive(Clone, Copy, Debug, PartialEq, Eq)]
+pub struct Failed;
+
+/// Where bytes come from.
+pub trait Source {
+    /// The bytes that are left, where the source tells them.
+    ghost remaining: { Self → Option (List ℕ) };
+
+    /// How many calls failed. It never falls, and stands still at the greatest u64.
+    ghost faults: { Self → ℕ };
+
+    /// Takes the next bytes, and answers how many. `Ok(0)` for an `into` that isn't empty is the end of input.
+    ///
+    /// # Errors
+    /// `Failed` where the source could not be read. Then nothing was taken.
+    fn read(&mut self, into: &mut [u8]) -> Result<usize, Failed>
+        ensures bound { IfOk result (λ n. n ≤ length into.new) }
+        ensures bytes { ReadConsumes (remaining self.old) (remaining self.new) result into.new }
+        ensures fault { OnErr result (Rose (faults self.old) (faults self.new)) }
+        ensures later { faults self.old ≤ faults self.new };
+}
+
+/// Where bytes go.
+pub trait Sink {
+    /// The bytes that were taken, where the sink tells them.
+    ghost taken: { Self → Option (List ℕ) };
+
+    /// How many calls failed. It never falls, and stands still at the greatest u64.
+    ghost faults: { Self → ℕ };
+
+    /// Takes a front of `from`, at least one byte where `from` isn't empty, and answers how many bytes.
+    ///
+    /// # Errors
+    /// `Failed` where the sink could not be written. Then nothing was taken.
+    fn write(&mut self, from: &[u8]) -> Result<usize, Failed>
+        ensures bound { IfOk result (λ n. n ≤ length from.now) }
+        ensures progress { IfOk result (λ n. 0 < length from.now → 0 < n) }
+        ensures bytes { WriteAppends (taken self.old) (taken self.new) result from.now }
+        ensures fault { OnErr result (Rose (faults self.old) (faults self.new)) }
+        ensures later { faults self.old ≤ faults self.new };
+
+    /// Hands on what was taken. It takes nothing itself.
+    ///
+    /// # Errors
+    /// `Failed` where the sink could not be flushed.
+    fn flush(&mut self) -> Result<(), Failed>
+        ensures bytes { Keeps (taken self.old) (taken self.new) }
+        ensures fault { OnErr result (Rose (faults self.old) (faults self.new)) }
+        ensures later { faults self.old ≤ faults self.new };
+}

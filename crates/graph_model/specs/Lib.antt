@@ -1,0 +1,1 @@
+-- Definitions on property graphs, which every crate above cites.
