@@ -1,1 +1,2 @@
 -- Definitions on property graphs, which every crate above cites.
+pub mod Arcs

@@ -1,0 +1,3 @@
+-- What the commands read and print.
+pub mod OnceText
+pub mod Printing

@@ -1,0 +1,4 @@
+//! The commands, from bytes to bytes.
+#![tactic(auto)]
+
+pub mod laws;
