@@ -3,6 +3,7 @@
 
 mod change;
 mod graph;
+pub mod laws;
 mod list;
 mod memory;
 mod name;
