@@ -1,3 +1,4 @@
 -- What the commands read and print.
 pub mod OnceText
 pub mod Printing
+pub mod Reading
