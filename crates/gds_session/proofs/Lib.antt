@@ -1,7 +1,8 @@
 -- Lemmas on the definitions of specs/.
 pub mod Arcs
-pub mod LineLemmas
+pub mod FirstLine
 pub mod Lines
-pub mod NumberLemmas
+pub mod DigitByDigit
 pub mod Numbers
-pub mod Once
+pub mod ReadArcs
+pub mod Acceptance

@@ -26,3 +26,8 @@ pub record Reads (text : Result (List ℕ) ℕ) (input : Input) : Type 0 where
 -- the number below a limit that a text of decimal digits writes, where there is a digit
 abbrev pub digits_below : ℕ → List ℕ → Option ℕ
 digits_below limit text = if nat_lt 0 (length text) && all_ascii_digits text && nat_lt (digits_value 10 text) limit then Some (digits_value 10 text) else None
+
+-- arcs before others that were read, or the line that says none
+abbrev pub with_arcs : List (ℕ × ℕ) → Result (List (ℕ × ℕ)) ℕ → Result (List (ℕ × ℕ)) ℕ
+with_arcs front (Ok arcs) = Ok (front ++ arcs)
+with_arcs front (Err number) = Err number
