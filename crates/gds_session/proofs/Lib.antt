@@ -1,5 +1,6 @@
 -- Lemmas on the definitions of specs/.
 pub mod Arcs
+pub mod Bytes
 pub mod FirstLine
 pub mod Lines
 pub mod DigitByDigit

@@ -2,5 +2,6 @@
 #![tactic(auto)]
 
 pub mod laws;
+mod degrees;
 mod input;
 mod once;
