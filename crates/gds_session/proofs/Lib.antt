@@ -1,0 +1,8 @@
+-- Lemmas on the definitions of specs/.
+pub mod Arcs
+pub mod FirstLine
+pub mod Lines
+pub mod DigitByDigit
+pub mod Numbers
+pub mod ReadArcs
+pub mod Acceptance

@@ -1,3 +1,5 @@
 -- What the commands read and print.
+pub mod Ending
 pub mod OnceText
 pub mod Printing
+pub mod Reading

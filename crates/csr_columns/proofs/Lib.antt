@@ -1,0 +1,3 @@
+pub mod ArcCounts
+pub mod Placing
+pub mod OffsetRows

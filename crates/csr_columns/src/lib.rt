@@ -1,0 +1,7 @@
+//! Rows of arcs in columns: the arcs of a property graph by their source, with a column of values per key.
+#![tactic(auto)]
+
+mod counting;
+mod csr;
+
+pub use csr::Csr;
