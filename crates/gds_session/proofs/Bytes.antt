@@ -1,10 +1,10 @@
 -- What a sink took, one piece after another.
 use Rattle.std.proofs.Common.{◌≡◌, ℕ, ◌+◌, ◌<◌, ◌≤◌, List, [], ◌∷◌, ◌++◌, length, take, drop, get_or, Option, Some, None, Result, Ok, Err, OnErr, refl, ap, sym, ◌∙◌, arith, append_assoc, append-nil, length-append, drop-cons, add-one}
-use Rattle.std.proofs.lemmas.List.{take-append-le}
+use Rattle.std.proofs.lemmas.List.{take-append-le, take-append-drop}
 use Rattle.std.proofs.Math.Seq.{take-append-add}
 use Rattle.std.specs.Io.KnownBytes.{Appends}
 use Rattle.gds_causes.specs.Front.{AppendsFront}
-use Rattle.gds_session.specs.Ending.{line_of_degree, lines_of_rows}
+use Rattle.gds_session.specs.Ending.{WroteFront, line_of_degree, lines_of_rows}
 use Rattle.csr_columns.specs.Rows.{row_at}
 
 -- one piece after another
@@ -26,9 +26,9 @@ front_of a b c written piece rest whole first second is =
     let n = second.0 in
     let regrouped = ap (take (length written + n)) (sym is ∙ append_assoc written piece rest) in
     let front : take (length written + n) whole ≡ written ++ take n piece =
-      regrouped ∙ take-append-add written (piece ++ rest) n ∙ ap (λ s. written ++ s) (take-append-le n piece rest second.1) in
+    regrouped ∙ take-append-add written (piece ++ rest) n ∙ ap (λ s. written ++ s) (take-append-le n piece rest second.1) in
     let fits : length written + n ≤ length whole =
-      omega (arith, second.1, length-append (written ++ piece) rest, length-append written piece, ap length is) in
+    omega (arith, second.1, length-append (written ++ piece) rest, length-append written piece, ap length is) in
     (length written + n, fits, rw front (Appends-more a b c written (take n piece) first second.2))
 
 -- a front of a whole text: what was written
@@ -64,3 +64,9 @@ piece_written written more piece rest later whole is parts =
 pub OnErr-map : {T E : Type 0} {P Q : Type 0} (r : Result T E) → (P → Q) → OnErr r P → OnErr r Q
 OnErr-map (Ok x) f h = tt
 OnErr-map (Err e) f h = f h
+
+-- what was written is a front of the text that an input makes
+pub wrote_front : (before after : Option (List ℕ)) (made : Result (List ℕ) ℕ) (text : List ℕ) → made ≡ Ok text → AppendsFront before after text
+    → (written : List ℕ) × Appends before after written × WroteFront made written
+wrote_front before after made text is front =
+    (take front.0 text, front.2, (text, drop front.0 text, is, sym (take-append-drop front.0 text)))

@@ -6,4 +6,5 @@ pub mod Lines
 pub mod DigitByDigit
 pub mod Numbers
 pub mod ReadArcs
+pub mod RowLines
 pub mod Acceptance

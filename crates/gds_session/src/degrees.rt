@@ -72,7 +72,11 @@ fn finish<W: Sink>(sink: &mut W, text: &[u8]) -> Result<(), WriteStop>
 ///
 /// # Errors
 /// Where a write or the flush failed, or there was no memory. Then the sink took a front of the text.
-pub(crate) fn write_degrees<W: Sink>(alloc: Global, csr: &Csr, sink: &mut W) -> Result<(), WriteStop>
+pub(crate) fn write_degrees<W: Sink>(
+    alloc: Global,
+    csr: &Csr,
+    sink: &mut W,
+) -> Result<(), WriteStop>
     ensures ok { OnOk result (Appends (W.taken sink.old) (W.taken sink.new) (lines_of_rows 0 csr.now.rows)) }
     ensures err { OnErr result (AppendsFront (W.taken sink.old) (W.taken sink.new) (lines_of_rows 0 csr.now.rows)) }
     ensures fault { result ≡ Err WriteStop.Fault → Rose (W.faults sink.old) (W.faults sink.new) }

@@ -21,7 +21,11 @@ pub(crate) enum ReadStop {
 }
 
 // Reads once, at most as many bytes as `piece` holds, puts them behind those that are there, and answers how many came.
-fn read_piece<S: Source>(source: &mut S, piece: &mut [u8], bytes: &mut Vec<u8>) -> Result<usize, ReadStop>
+fn read_piece<S: Source>(
+    source: &mut S,
+    piece: &mut [u8],
+    bytes: &mut Vec<u8>,
+) -> Result<usize, ReadStop>
     requires { 0 < length piece.old }
     ensures ok { IfOk result (λ n. n ≤ length piece.old) }
     ensures end { IfOk result (λ n. n ≡ 0 → IsAtEnd (S.remaining source.new)) }
@@ -59,6 +63,7 @@ pub(crate) fn read_to_end<S: Source>(
 ) -> Result<(), ReadStop>
     requires { bytes.old.items ≡ [] }
     ensures taken { Consumes (S.remaining source.old) (S.remaining source.new) bytes.new.items }
+    ensures within { length bytes.new.items ≤ budget }
     ensures ok { OnOk result (IsAtEnd (S.remaining source.new)) }
     ensures spent { result ≡ Err ReadStop.Spent → length bytes.new.items ≡ budget }
     ensures fault { result ≡ Err ReadStop.Fault → Rose (S.faults source.old) (S.faults source.new) }
@@ -86,5 +91,9 @@ fn room_for(left: u64) -> usize
     ensures piece { result ≤ PIECE }
     ensures left { result ≤ left }
 {
-    if left < PIECE as u64 { left as usize } else { PIECE }
+    if left < PIECE as u64 {
+        left as usize
+    } else {
+        PIECE
+    }
 }

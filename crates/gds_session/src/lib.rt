@@ -1,7 +1,12 @@
 //! The commands, from bytes to bytes.
 #![tactic(auto)]
 
-pub mod laws;
+mod command;
 mod degrees;
+mod ends;
 mod input;
+pub mod laws;
 mod once;
+
+pub use command::run;
+pub use ends::End;

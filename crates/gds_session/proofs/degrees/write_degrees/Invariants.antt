@@ -9,5 +9,5 @@ invariant-loop-node g l = record {
   written : List ℕ;
   taken : Appends (g.W.Sink.taken l.fn.sink) (g.W.Sink.taken l.sink) written;
   whole : written ++ l.text.items ++ lines_of_rows l.node (drop l.node l.csr.rows) ≡ lines_of_rows 0 l.csr.rows;
-  later : g.W.Sink.faults l.fn.sink ≤ g.W.Sink.faults l.sink
+  later : g.W.Sink.faults l.fn.sink ≤ g.W.Sink.faults l.sink;
 }

@@ -8,7 +8,7 @@ invariant-loop-left g l = record {
   taken : Consumes (g.S.Source.remaining l.fn.source) (g.S.Source.remaining l.source) l.bytes.items;
   budget : length l.bytes.items + l.left ≡ l.budget;
   later : g.S.Source.faults l.fn.source ≤ g.S.Source.faults l.source;
-  room : vec_len l.piece ≡ 65536
+  room : vec_len l.piece ≡ 65536;
 }
 
 abbrev pub decreases-loop-left : goal.decreases-loop-left

@@ -10,5 +10,5 @@ invariant-loop-b l = record {
   value : digits_value_after 10 l.value (drop l.b-index l.text) ≡ digits_value 10 l.text;
   digits : all_ascii_digits (drop l.b-index l.text) ≡ all_ascii_digits l.text;
   below : 0 < l.b-index → l.value < l.limit;
-  small : l.value ≤ most_nodes
+  small : l.value ≤ most_nodes;
 }

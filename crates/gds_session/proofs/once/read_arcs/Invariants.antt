@@ -10,7 +10,7 @@ abbrev pub invariant-loop-rest : goal.invariant-loop-rest
 invariant-loop-rest l = record {
   whole : with_arcs l.arcs.items (arcs_of l.nodes (length l.arcs.items + 2) (lines_of l.rest)) ≡ arcs_of l.nodes 2 (lines_of l.text);
   ends : AllByRecursion (JoinsNodes l.nodes) l.arcs.items;
-  few : length l.arcs.items ≤ most_arcs
+  few : length l.arcs.items ≤ most_arcs;
 }
 
 abbrev pub decreases-loop-rest : goal.decreases-loop-rest
