@@ -2,6 +2,7 @@
 pub mod Arcs
 pub mod Bytes
 pub mod FirstLine
+pub mod LineBytes
 pub mod Lines
 pub mod DigitByDigit
 pub mod Numbers

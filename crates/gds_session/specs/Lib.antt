@@ -3,3 +3,4 @@ pub mod Ending
 pub mod OnceText
 pub mod Printing
 pub mod Reading
+pub mod Status

@@ -1,5 +1,5 @@
 // Writing the degree of each node, in large pieces.
-ghost use Rattle.std.specs.Prelude.{◌≡◌, ◌+◌, ◌<◌, ◌≤◌, [], ◌∷◌, ◌++◌, length, Ok, Err, OnOk, OnErr, codes, decimal};
+ghost use Rattle.std.specs.Prelude.{◌≡◌, ◌+◌, ◌<◌, ◌≤◌, [], ◌∷◌, ◌++◌, length, Ok, Err, OnOk, OnErr, codes, decimal, drop};
 ghost use Rattle.std.specs.Io.KnownBytes.{Appends};
 ghost use Rattle.gds_causes.specs.Faults.{Rose};
 ghost use Rattle.gds_causes.specs.Front.{AppendsFront};
@@ -8,10 +8,13 @@ ghost use Rattle.gds_session.specs.Ending.{HandsOn, line_of_degree, lines_of_row
 use csr_columns::Csr;
 use gds_causes::{Sink, write_all};
 use graph_model::Mem;
-use itoa::Buffer;
+use itoa::write_digits;
 use std::alloc::Global;
 
 const PIECE: usize = 65_536;
+
+// Two numbers of at most 20 digits, a space and an LF.
+const LONGEST_LINE: usize = 42;
 
 /// Why a text was not written whole.
 #[derive(Clone, Copy, Debug, PartialEq, Eq)]
@@ -22,15 +25,25 @@ pub(crate) enum WriteStop {
     OutOfMemory,
 }
 
-// Puts the line of a node behind a text: its id and its degree.
+// The bytes of the line of a node, its id and its degree, at the end of `line`; answers where they begin.
+fn write_line(line: &mut [u8; LONGEST_LINE], node: u32, degree: usize) -> usize
+    ensures bound { result ≤ LONGEST_LINE }
+    ensures line { drop result line.new ≡ line_of_degree node degree }
+{
+    let end = LONGEST_LINE - 1;
+    line[end] = b'\n';
+    let space = write_digits(degree as u64, line, end) - 1;
+    line[space] = b' ';
+    write_digits(u64::from(node), line, space)
+}
+
+// Puts the line of a node behind a text.
 fn push_line(text: &mut Vec<u8>, node: u32, degree: usize) -> Result<(), Mem>
     ensures { OnOk result (text.new.items ≡ text.old.items ++ line_of_degree node degree) }
 {
-    let mut number = Buffer::new();
-    text.extend_from_slice(number.format(node).as_bytes())?;
-    text.extend_from_slice(b" ")?;
-    text.extend_from_slice(number.format(degree).as_bytes())?;
-    text.extend_from_slice(b"\n")?;
+    let mut line = [0u8; LONGEST_LINE];
+    let start = write_line(&mut line, node, degree);
+    text.extend_from_slice(&line[start..])?;
     Ok(())
 }
 

@@ -7,6 +7,8 @@ mod ends;
 mod input;
 pub mod laws;
 mod once;
+#[cfg(test)]
+mod tests;
 
 pub use command::run;
 pub use ends::End;
