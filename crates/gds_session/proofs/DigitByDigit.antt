@@ -38,7 +38,7 @@ digits_below-large limit text h =
     by_digits false false n = refl
 
 -- an ASCII digit stands for the number of places that it is above `0`
-digit_value-ascii : (b : ℕ) → 48 ≤ b → b ≤ 57 → digit_value b ≡ b - 48
+pub digit_value-ascii : (b : ℕ) → 48 ≤ b → b ≤ 57 → digit_value b ≡ b - 48
 digit_value-ascii b low high =
     let from : nat_lt b 48 ≡ false = le-ltb b 48 low in
     let to : nat_lt b 58 ≡ true = lt-ltb b 58 (omega arith) in

@@ -2,6 +2,8 @@
 pub mod Arcs
 pub mod Bytes
 pub mod FirstLine
+pub mod FirstArc
+pub mod FrontNumbers
 pub mod LineBytes
 pub mod Lines
 pub mod DigitByDigit

@@ -1,12 +1,12 @@
 -- Words on reading an input line by line.
-use Rattle.std.specs.Prelude.{◌≡◌, ℕ, ◌==◌, nat_lt, Bool, ◌&&◌, if◌then◌else◌, List, ◌++◌, length, Option, Some, None, Result, Ok, Err}
+use Rattle.std.specs.Prelude.{◌≡◌, ℕ, ◌<◌, ◌==◌, nat_lt, Bool, ◌&&◌, if◌then◌else◌, List, ◌∷◌, ◌++◌, length, Option, Some, None, Result, Ok, Err}
 use Rattle.std.specs.Str.{all_ascii_digits}
 use Rattle.std.specs.Str.Parse.{digits_value}
 use Rattle.std.specs.List.{AllByRecursion}
 use Rattle.gds_session.specs.declared.once.Input.{Input}
 use Rattle.gds_session.specs.declared.once.InputRefusal.{InputRefusal}
 use Rattle.gds_session.specs.declared.once.InputRefusal.TheVariants.{Line, OutOfMemory}
-use Rattle.gds_session.specs.OnceText.{degree_lines}
+use Rattle.gds_session.specs.OnceText.{degree_lines, lines_of, arc_of}
 use Rattle.gds_session.specs.Printing.{JoinsNodes}
 
 -- whether a byte is this one
@@ -31,3 +31,18 @@ digits_below limit text = if nat_lt 0 (length text) && all_ascii_digits text && 
 abbrev pub with_arcs : List (ℕ × ℕ) → Result (List (ℕ × ℕ)) ℕ → Result (List (ℕ × ℕ)) ℕ
 with_arcs front (Ok arcs) = Ok (front ++ arcs)
 with_arcs front (Err number) = Err number
+
+-- the first line of a text says an arc, and these bytes stand after it
+pub record IsArcLine (nodes : ℕ) (text : List ℕ) (arc : ℕ × ℕ) (after : List ℕ) : Type 0 where
+  pub line : List ℕ
+  pub lines : lines_of text ≡ line ∷ lines_of after
+  pub says : arc_of nodes line ≡ Some arc
+  pub joins : JoinsNodes nodes arc
+  pub shorter : length after < length text
+
+-- the first line of a text says no arc
+pub record IsNoArcLine (nodes : ℕ) (text : List ℕ) : Type 0 where
+  pub line : List ℕ
+  pub rest : List (List ℕ)
+  pub lines : lines_of text ≡ line ∷ rest
+  pub says_none : arc_of nodes line ≡ None

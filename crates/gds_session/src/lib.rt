@@ -1,6 +1,7 @@
 //! The commands, from bytes to bytes.
 #![tactic(auto)]
 
+mod ahead;
 mod command;
 mod degrees;
 mod ends;

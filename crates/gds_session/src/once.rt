@@ -1,11 +1,12 @@
 // The input of `once degree`: lines that say a number of nodes and the arcs between them.
-ghost use Rattle.std.specs.Prelude.{true, false, IfSome, IfNone, ◌≡◌, ℕ, ◌+◌, ◌<◌, ◌≤◌, ◌∷◌, [], ◌++◌, length, if◌then◌else◌, Some, None, Ok, Err, IfOk, IfErr, MatchResult, position, nat_eq, drop};
+ghost use Rattle.std.specs.Prelude.{true, false, IfSome, IfNone, ◌≡◌, ℕ, ◌+◌, ◌<◌, ◌≤◌, ◌∷◌, [], ◌++◌, length, if◌then◌else◌, Some, None, Ok, Err, IfOk, IfErr, MatchOption, MatchResult, position, nat_eq, drop};
 ghost use Rattle.std.specs.List.{starts_with, before_first, after_first, position_or_len, AllByRecursion};
 ghost use Rattle.gds_session.specs.OnceText.{most_nodes, most_arcs, is_space, lines_of, is_decimal, number_below, node_count_of, ends_of, arc_of, arcs_of, once_text, degree_lines};
 ghost use Rattle.gds_session.specs.Printing.{JoinsNodes};
 ghost use Rattle.gds_session.specs.declared.once.InputRefusal.TheVariants.{OutOfMemory};
-ghost use Rattle.gds_session.specs.Reading.{is_byte, digits_below, SaysNone, Reads};
+ghost use Rattle.gds_session.specs.Reading.{is_byte, digits_below, IsArcLine, IsNoArcLine, SaysNone, Reads};
 
+use crate::ahead::arc_ahead;
 use std::alloc::{AllocError, AllocFailed, Global};
 
 const MOST_NODES: u32 = 4_194_304;
@@ -113,7 +114,7 @@ fn digits_below(limit: u32, text: &[u8]) -> Option<u32>
 }
 
 // What stands after a word at the front of a line.
-fn strip_word<'a>(line: &'a [u8], word: &[u8]) -> Option<&'a [u8]>
+pub(crate) fn strip_word<'a>(line: &'a [u8], word: &[u8]) -> Option<&'a [u8]>
     ensures found { IfSome result (λ rest. (starts_with nat_eq line.now word.now ≡ true) × (rest.now ≡ drop (length word.now) line.now)) }
     ensures none { IfNone result (starts_with nat_eq line.now word.now ≡ false) }
 {
@@ -154,6 +155,22 @@ fn arc_of(nodes: u32, line: &[u8]) -> Option<(u32, u32)>
     ends_of(nodes, ends)
 }
 
+// The arc that the first line of a text says, where it says one, and what stands after that line.
+fn next_arc(nodes: u32, text: &[u8]) -> Option<((u32, u32), &[u8])>
+    requires nodes { nodes ≤ most_nodes }
+    requires some { 0 < length text.now }
+    ensures { MatchOption result (IsNoArcLine nodes text.now) (λ taken. IsArcLine nodes text.now taken.0 taken.1.now) }
+{
+    if let Some(taken) = arc_ahead(nodes, text) {
+        return Some(taken);
+    }
+    let (line, after) = split_line(text);
+    match arc_of(nodes, line) {
+        Some(arc) => Some((arc, after)),
+        None => None,
+    }
+}
+
 // The arcs that the lines of a text say, of which the first is line 2 of the input.
 fn read_arcs(alloc: Global, nodes: u32, text: &[u8]) -> Result<Vec<(u32, u32)>, InputRefusal>
     requires { nodes ≤ most_nodes }
@@ -164,13 +181,12 @@ fn read_arcs(alloc: Global, nodes: u32, text: &[u8]) -> Result<Vec<(u32, u32)>, 
     let mut arcs = Vec::new(alloc);
     let mut rest = text;
     while !rest.is_empty() {
-        let (line, after) = split_line(rest);
+        let Some((arc, after)) = next_arc(nodes, rest) else {
+            return Err(InputRefusal::Line(line_number(arcs.len())));
+        };
         if arcs.len() >= MOST_ARCS {
             return Err(InputRefusal::Line(line_number(arcs.len())));
         }
-        let Some(arc) = arc_of(nodes, line) else {
-            return Err(InputRefusal::Line(line_number(arcs.len())));
-        };
         arcs.push(arc)?;
         rest = after;
     }
