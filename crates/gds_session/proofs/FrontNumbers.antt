@@ -6,6 +6,7 @@ use Rattle.std.specs.Str.Parse.{digits_value}
 use Rattle.std.proofs.lemmas.List.{take-append-drop, get_or-take, take_more, length-take-le}
 use Rattle.std.proofs.lemmas.Int.Digits.{digits_value_more}
 use Rattle.std.proofs.lemmas.Fmt.{decimal-digits_value}
+use Rattle.std.proofs.lemmas.Str.Parse.{digits_value_short}
 use Rattle.std.proofs.lemmas.Bool.{and_from, and_parts}
 use Rattle.gds_session.proofs.Numbers.{own}
 use Rattle.gds_session.proofs.DigitByDigit.{digit_value-ascii}
@@ -42,3 +43,10 @@ pub digits_value-more : (text : List ℕ) (i value digit : ℕ) → i < length t
 digits_value-more text i value digit inside so_far low high is =
     digits_value_more 10 text i inside ∙ ap (λ n. n * 10 + digit_value (get_or text i 0)) so_far
     ∙ ap (λ d. value * 10 + d) (digit_value-ascii (get_or text i 0) low high ∙ sym is)
+
+-- the value of at most seven digits
+pub digits_value-seven : (text : List ℕ) (place value : ℕ) → place ≤ 7 → all_ascii_digits (take place text) ≡ true
+    → digits_value 10 (take place text) ≡ value → value < 10000000
+digits_value-seven text place value few digits writes =
+    let short : length (take place text) ≤ 7 = omega (arith, length-take place text) in
+    omega (arith, digits_value_short own (take place text) 7 digits short, writes)

@@ -8,36 +8,37 @@ ghost use Rattle.gds_session.specs.Reading.{IsArcLine};
 
 use crate::once::strip_word;
 
+// As many digits as are looked at: the value of so many fits u32.
+const DIGITS: usize = 8;
+
 // The number below a limit whose digits stand at the front of a text, and what stands after them.
 fn take_number(limit: u32, text: &[u8]) -> Option<(u32, &[u8])>
-    requires { limit ≤ most_nodes }
     ensures text { IfSome result (λ taken. text.now ≡ decimal taken.0 ++ taken.1.now) }
     ensures below { IfSome result (λ taken. taken.0 < limit) }
 {
+    let (front, _) = text.split_at(text.len().min(DIGITS));
     let mut value = 0;
-    for (place, b) in text.iter().enumerate() {
+    for (place, b) in front.iter().enumerate() {
         if !b.is_ascii_digit() {
             return number_before(limit, text, place, value);
         }
         value = value * 10 + u32::from(*b - b'0');
-        if value >= limit {
-            return None;
-        }
     }
-    number_before(limit, text, text.len(), value)
+    number_before(limit, text, front.len(), value)
 }
 
-// The number that the digits before a place write, where there is one and they begin with no 0 before another.
+// The number that the digits before a place write, where it is below a limit and they begin with no 0 before another.
 fn number_before(limit: u32, text: &[u8], place: usize, value: u32) -> Option<(u32, &[u8])>
-    requires limit { limit ≤ most_nodes }
     requires place { place ≤ length text.now }
     requires digits { all_ascii_digits (take place text.now) ≡ true }
     requires value { digits_value 10 (take place text.now) ≡ value }
-    requires below { 0 < place → value < limit }
     ensures text { IfSome result (λ taken. text.now ≡ decimal taken.0 ++ taken.1.now) }
     ensures below { IfSome result (λ taken. taken.0 < limit) }
 {
-    if place == 0 || (place > 1 && text[0] == b'0') {
+    if place == 0 || value >= limit {
+        return None;
+    }
+    if place > 1 && text[0] == b'0' {
         return None;
     }
     let (_, rest) = text.split_at(place);
