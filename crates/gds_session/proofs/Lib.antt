@@ -1,0 +1,11 @@
+-- Lemmas on the definitions of specs/.
+pub mod Arcs
+pub mod Bytes
+pub mod FirstLine
+pub mod LineBytes
+pub mod Lines
+pub mod DigitByDigit
+pub mod Numbers
+pub mod ReadArcs
+pub mod RowLines
+pub mod Acceptance

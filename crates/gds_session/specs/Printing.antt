@@ -1,7 +1,7 @@
 -- The input of `once degree` in the subject's own words: a number of nodes and a list of arcs, printed.
-use Rattle.std.specs.Prelude.{◌≡◌, ℕ, ◌≤◌, ◌<◌, ◌⊎◌, List, ◌++◌, length, decimal, codes, Ok}
+use Rattle.std.specs.Prelude.{◌≡◌, ◌≢◌, ℕ, ◌-◌, ◌≤◌, ◌<◌, ◌⊎◌, max, List, ◌++◌, length, take, decimal, codes, Ok, Err}
 use Rattle.std.specs.List.{AllByRecursion, flat_map}
-use Rattle.gds_session.specs.OnceText.{most_nodes, most_arcs, degree_lines, once_text}
+use Rattle.gds_session.specs.OnceText.{most_nodes, most_arcs, lines_of, degree_lines, once_text}
 
 -- the line `nodes N`
 abbrev pub nodes_line : ℕ → List ℕ
@@ -38,3 +38,20 @@ AcceptedIsPrinting = (bytes text : List ℕ) → once_text bytes ≡ Ok text →
 abbrev pub PrintingIsAccepted : Type 0
 PrintingIsAccepted = (bytes : List ℕ) (nodes : ℕ) (arcs : List (ℕ × ℕ)) → IsSmallGraph nodes arcs →
     IsPrinting bytes nodes arcs → once_text bytes ≡ Ok (degree_lines nodes arcs)
+
+-- the first lines of a text, as many as that, each followed by an LF
+abbrev pub first_lines : ℕ → List ℕ → List ℕ
+first_lines count bytes = flat_map (λ line. line ++ codes "\n") (take count (lines_of bytes))
+
+-- line k of a text is the first that is wrong: the lines before it print a graph, and no text that begins with the
+-- lines up to it does
+pub record IsFirstWrongLine (bytes : List ℕ) (k : ℕ) : Type 0 where
+  pub counted : 1 ≤ k
+  pub within : k ≤ max 1 (length (lines_of bytes))
+  pub right_before : 1 < k → (nodes : ℕ) × (arcs : List (ℕ × ℕ)) × IsSmallGraph nodes arcs × (first_lines (k - 1) bytes ≡ printing nodes arcs)
+  pub wrong_from_there : (other : List ℕ) (nodes : ℕ) (arcs : List (ℕ × ℕ)) → IsSmallGraph nodes arcs →
+      IsPrinting other nodes arcs → take k (lines_of other) ≢ take k (lines_of bytes)
+
+-- a text that is refused is refused at its first wrong line
+abbrev pub RefusedAtFirstWrongLine : Type 0
+RefusedAtFirstWrongLine = (bytes : List ℕ) (k : ℕ) → once_text bytes ≡ Err k → IsFirstWrongLine bytes k

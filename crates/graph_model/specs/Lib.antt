@@ -1,2 +1,8 @@
 -- Definitions on property graphs, which every crate above cites.
 pub mod Arcs
+pub mod Change
+pub mod Graph
+pub mod Lists
+pub mod Names
+pub mod Refusals
+pub mod SmallStore

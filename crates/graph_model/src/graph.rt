@@ -1,0 +1,69 @@
+// The property graph, and the plain types that stand beside it.
+ghost use Rattle.std.specs.Prelude.{◌≡◌, length};
+ghost use Rattle.std.specs.List.Sorted.{IsStrictlyIncreasing};
+
+use crate::list::List;
+use crate::name::Name;
+
+/// A key and its value.
+#[derive(Debug, Drop)]
+pub struct Prop {
+    pub key: Name,
+    pub value: i64,
+}
+
+/// A node with its labels and its values, each ascending.
+#[derive(Debug, Drop)]
+pub struct Node {
+    pub id: u32,
+    pub labels: List<Name>,
+    pub props: List<Prop>,
+}
+
+/// A relationship between two nodes, with its type and its values, which ascend by key.
+#[derive(Debug, Drop)]
+pub struct Rel {
+    pub id: u32,
+    pub source: u32,
+    pub target: u32,
+    pub kind: Name,
+    pub props: List<Prop>,
+}
+
+/// Nodes and relationships, each ascending by id, and the ids that come next.
+#[derive(Debug, Drop)]
+pub struct PropertyGraph {
+    pub nodes: List<Node>,
+    pub rels: List<Rel>,
+    pub next_node: u32,
+    pub next_rel: u32,
+}
+
+/// How the relationships of a type become arcs.
+#[derive(Clone, Copy, Debug, PartialEq, Eq)]
+pub enum Orientation {
+    /// An arc from source to target.
+    Natural,
+    /// An arc from target to source.
+    Reverse,
+    /// An arc each way.
+    Undirected,
+}
+
+/// Which labels or which types are meant.
+#[derive(Debug, Drop)]
+pub enum Choice {
+    /// Each of them; of nodes also those without a label.
+    All,
+    /// Those of these names, which may repeat.
+    Of(List<Name>),
+}
+
+/// A value for some ids, which ascend.
+#[derive(Debug, Drop)]
+pub struct Column {
+    pub ids: List<u32>,
+    pub values: List<i64>,
+    pub ghost ascending: { IsStrictlyIncreasing ids },
+    pub ghost paired: { length values ≡ length ids },
+}

@@ -1,0 +1,19 @@
+// Laws of the definitions, each the contract of a function that does nothing.
+ghost use Rattle.std.specs.Prelude.{◌≡◌, [], ◌∷◌, Some, None, codes, pos};
+ghost use Rattle.graph_model.specs.Change.{after_change, refused_change, change_answer};
+ghost use Rattle.graph_model.specs.SmallStore.{empty_graph, make_small_store, small_store, without_node_2};
+
+use crate::change::{Change, ChangeReply};
+use crate::refusal::{EntityKind, Refusal};
+
+/// The definitions of changes, evaluated on a small store: it is made, its node 2 is deleted, and then isn't there.
+pub fn worked_rows()
+    ensures made { after_change empty_graph make_small_store ≡ small_store }
+    ensures allowed { refused_change empty_graph make_small_store ≡ None }
+    ensures answer { change_answer empty_graph make_small_store ≡ ChangeReply.Created 0 6 0 6 }
+    ensures deleted { after_change small_store (Change.DeleteNodes (2 ∷ [])) ≡ without_node_2 }
+    ensures gone { change_answer small_store (Change.DeleteNodes (2 ∷ [])) ≡ ChangeReply.Deleted 1 3 }
+    ensures missing { refused_change without_node_2 (Change.DeleteNodes (2 ∷ [])) ≡ Some (Refusal.NoSuchEntity EntityKind.Node 2) }
+    ensures last_stays { after_change small_store (Change.SetNodes (codes "d") ((0, pos 5) ∷ (0, pos 6) ∷ [])) ≡ after_change small_store (Change.SetNodes (codes "d") ((0, pos 6) ∷ [])) }
+{
+}
