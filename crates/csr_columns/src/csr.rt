@@ -1,10 +1,12 @@
 // Arcs by source, in columns.
-ghost use Rattle.std.specs.Prelude.{◌≡◌, [], ◌+◌, ◌<◌, length, All, IfOk};
-ghost use Rattle.csr_columns.specs.Rows.{LiesBelow, rows_of, row_at};
-ghost use Rattle.csr_columns.specs.Offsets.{CutsRows, cut_row};
+ghost use Rattle.std.specs.Prelude.{◌≡◌, ◌<◌, [], length, map, sum_by, All, MatchOption, IfOk, None, Some, option_copied};
+ghost use Rattle.std.specs.List.Sorted.{IsSorted};
+ghost use Rattle.csr_columns.specs.Rows.{LiesBelow, AreDistinct, arc_cmp, arc_rows_of, row_at, column_at, under, row_in, turned_rows};
 
+use crate::columns;
 use crate::counting;
-use graph_model::{List, Mem, Name};
+use crate::turning::{self, Turning};
+use graph_model::{List, Mem, Name, TryClone};
 use std::alloc::Global;
 use std::marker::Model;
 
@@ -14,42 +16,64 @@ pub struct Csr {
     offsets: Vec<u32>,
     targets: Vec<u32>,
     keys: List<Name>,
-    columns: List<List<i64>>,
+    columns: Vec<List<i64>>,
 }
 
 impl Model for Csr {
-    ghost use Rattle.std.specs.List.{zip};
-    ghost use Rattle.std.specs.Prelude.{map};
     ghost use Rattle.csr_columns.specs.Rows.{ArcRows};
-    ghost use Rattle.csr_columns.specs.Offsets.{cut_rows, AreRows};
+    ghost use Rattle.csr_columns.specs.Offsets.{shown, AreRows};
 
     ghost Value = { ArcRows };
 
-    ghost view = { λ csr. record { rows = cut_rows csr.offsets.items csr.targets.items; columns = zip csr.keys (map (cut_rows csr.offsets.items) csr.columns) } };
+    ghost view = { λ csr. shown csr.offsets.items csr.targets.items csr.keys csr.columns.items };
 
-    ghost invariant = { λ csr. AreRows csr.offsets.items csr.targets.items csr.keys csr.columns };
+    ghost invariant = { λ csr. AreRows csr.offsets.items csr.targets.items csr.keys csr.columns.items };
 }
 
 impl Csr {
+    /// The rows of arcs in ascending order of source and target, with a column of values per key. A value stands at
+    /// the place of its arc. The columns are moved in, and stand in the order given.
+    ///
+    /// # Errors
+    /// `Mem` where there is no memory, and where there are more arcs than `u32` counts.
+    pub fn build(alloc: Global, nodes: u32, ends: &[(u32, u32)], props: List<(Name, List<i64>)>) -> Result<Csr, Mem>
+        requires below { All (LiesBelow nodes) ends.now }
+        requires ascend { IsSorted arc_cmp ends.now }
+        requires beside { All (λ prop. length prop.1 ≡ length ends.now) props }
+        requires distinct { AreDistinct (map (λ prop. prop.0) props) }
+        ensures { IfOk result (λ csr. csr ≡ arc_rows_of nodes ends.now props) }
+    {
+        if ends.len() > u32::MAX as usize {
+            return Err(Mem);
+        }
+        let offsets = counting::row_offsets(alloc, nodes, ends)?;
+        let targets = counting::targets(alloc, ends)?;
+        let (keys, columns) = columns::apart(alloc, props)?;
+        Ok(Csr {
+            offsets,
+            targets,
+            keys,
+            columns,
+        })
+    }
+
     /// The rows of arcs that stand in any order, with no columns. Each row keeps the order in which its arcs stand.
     ///
     /// # Errors
     /// `Mem` where there is no memory, and where there are more arcs than `u32` counts.
     pub fn by_source(alloc: Global, nodes: u32, ends: &[(u32, u32)]) -> Result<Csr, Mem>
         requires { All (LiesBelow nodes) ends.now }
-        ensures { IfOk result (λ csr. csr ≡ record { rows = rows_of nodes ends.now; columns = [] }) }
+        ensures { IfOk result (λ csr. csr ≡ arc_rows_of nodes ends.now []) }
     {
         if ends.len() > u32::MAX as usize {
             return Err(Mem);
         }
-        let mut offsets = counting::row_starts(alloc, nodes, ends)?;
-        let mut targets = counting::zeros(alloc, ends.len())?;
-        counting::place_targets(ends, &mut offsets, &mut targets);
+        let (offsets, targets) = counting::group_by_source(alloc, nodes, ends)?;
         Ok(Csr {
             offsets,
             targets,
             keys: List::new(alloc),
-            columns: List::new(alloc),
+            columns: Vec::new(alloc),
         })
     }
 
@@ -61,6 +85,14 @@ impl Csr {
         (self.offsets.len() - 1) as u32
     }
 
+    /// The number of arcs.
+    #[inline]
+    pub fn arc_count(&self) -> u32
+        ensures { result ≡ sum_by length self.now.rows }
+    {
+        self.targets.len() as u32
+    }
+
     /// The targets of the arcs from `v`, in order.
     #[inline]
     pub fn row(&self, v: u32) -> &[u32]
@@ -68,20 +100,60 @@ impl Csr {
         ensures row { result.now ≡ row_at self.now.rows v }
         ensures below { All (λ target. target < length self.now.rows) result.now }
     {
-        cut(&self.offsets, &self.targets, v)
+        columns::cut(&self.offsets, &self.targets, v)
     }
-}
 
-/// The row of `v` in a list that offsets cut into rows.
-#[inline]
-fn cut<'a, T>(offsets: &[u32], items: &'a [T], v: u32) -> &'a [T]
-    requires cuts { CutsRows offsets.now (length items.now) }
-    requires below { v + 1 < length offsets.now }
-    ensures { result.now ≡ cut_row offsets.now items.now v }
-{
-    let start = offsets[v as usize] as usize;
-    let end = offsets[v as usize + 1] as usize;
-    &items[start..end]
+    /// The keys, in the order in which `build` was given them.
+    #[inline]
+    pub fn keys(&self) -> &[Name]
+        ensures keys { result.now ≡ map (λ column. column.0) self.now.columns }
+        ensures distinct { AreDistinct result.now }
+    {
+        self.keys.as_slice()
+    }
+
+    /// The place of a key among the keys, `None` where there is no such key.
+    pub fn place_of(&self, key: &Name) -> Option<usize>
+        ensures { MatchOption result (under key.now self.now.columns ≡ None) (λ place. (place < length self.now.columns) × (under key.now self.now.columns ≡ Some (column_at self.now.columns place))) }
+    {
+        columns::place_of(self.keys.as_slice(), key)
+    }
+
+    /// The values of the arcs from `v` under the key at a place, in order.
+    #[inline]
+    pub fn values(&self, place: usize, v: u32) -> &[i64]
+        requires place { place < length self.now.columns }
+        requires node { v < length self.now.rows }
+        ensures values { result.now ≡ row_at (column_at self.now.columns place) v }
+        ensures beside { length result.now ≡ length (row_at self.now.rows v) }
+    {
+        columns::cut(&self.offsets, self.columns[place].as_slice(), v)
+    }
+
+    /// The values of the arcs from `v` under a key, in order, `None` where there is no such key.
+    pub fn prop(&self, key: &Name, v: u32) -> Option<&[i64]>
+        requires { v < length self.now.rows }
+        ensures { option_copied result ≡ row_in (under key.now self.now.columns) v }
+    {
+        let place = self.place_of(key)?;
+        Some(self.values(place, v))
+    }
+
+    /// Every arc turned, in ascending order of the new source and the new target. Equal arcs keep their order.
+    ///
+    /// # Errors
+    /// `Mem` where there is no memory.
+    pub fn reverse(&self, alloc: Global) -> Result<Csr, Mem>
+        ensures { IfOk result (λ csr. csr ≡ turned_rows self.now) }
+    {
+        let Turning { offsets, places, sources } = turning::turn(alloc, &self.offsets, &self.targets)?;
+        Ok(Csr {
+            offsets,
+            targets: columns::pick(alloc, &sources, &places)?,
+            keys: self.keys.try_clone()?,
+            columns: columns::pick_each(alloc, &self.columns, &places)?,
+        })
+    }
 }
 
 #[cfg(test)]
