@@ -3,9 +3,8 @@ ghost use Rattle.std.specs.Prelude.{◌≡◌, ◌<◌, [], length, map, sum_by,
 ghost use Rattle.std.specs.List.Sorted.{IsSorted};
 ghost use Rattle.csr_columns.specs.Rows.{LiesBelow, AreDistinct, arc_cmp, arc_rows_of, row_at, column_at, under, row_in, turned_rows};
 
-use crate::columns;
-use crate::counting;
 use crate::turning::{self, Turning};
+use crate::{columns, counting};
 use graph_model::{List, Mem, Name, TryClone};
 use std::alloc::Global;
 use std::marker::Model;
@@ -36,7 +35,12 @@ impl Csr {
     ///
     /// # Errors
     /// `Mem` where there is no memory, and where there are more arcs than `u32` counts.
-    pub fn build(alloc: Global, nodes: u32, ends: &[(u32, u32)], props: List<(Name, List<i64>)>) -> Result<Csr, Mem>
+    pub fn build(
+        alloc: Global,
+        nodes: u32,
+        ends: &[(u32, u32)],
+        props: List<(Name, List<i64>)>,
+    ) -> Result<Csr, Mem>
         requires below { All (LiesBelow nodes) ends.now }
         requires ascend { IsSorted arc_cmp ends.now }
         requires beside { All (λ prop. length prop.1 ≡ length ends.now) props }
@@ -146,7 +150,11 @@ impl Csr {
     pub fn reverse(&self, alloc: Global) -> Result<Csr, Mem>
         ensures { IfOk result (λ csr. csr ≡ turned_rows self.now) }
     {
-        let Turning { offsets, places, sources } = turning::turn(alloc, &self.offsets, &self.targets)?;
+        let Turning {
+            offsets,
+            places,
+            sources,
+        } = turning::turn(alloc, &self.offsets, &self.targets)?;
         Ok(Csr {
             offsets,
             targets: columns::pick(alloc, &sources, &places)?,

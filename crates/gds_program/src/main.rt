@@ -7,10 +7,9 @@
 use gds_causes::{StdSink, StdSource};
 use gds_session::{End, run};
 use graph_model::List;
-use std::env;
-use std::fmt;
 use std::io::ErrorKind;
 use std::process::ExitCode;
+use std::{env, fmt};
 
 /// As many bytes as a command reads at most.
 const BUDGET: u64 = 1 << 40;

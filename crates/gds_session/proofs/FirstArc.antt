@@ -13,7 +13,7 @@ pub arc_text-parts : (text ends rest after_source after_target : List ℕ) (sour
 arc_text-parts text ends rest after_source after_target source target word first space second =
     let tail : rest ≡ codes " " ++ (decimal target ++ after_target) = space ∙ ap (λ s. codes " " ++ s) second in
     let whole : text ≡ codes "rel " ++ (decimal source ++ (codes " " ++ (decimal target ++ after_target))) =
-      word ∙ ap (λ s. codes "rel " ++ s) (first ∙ ap (λ s. decimal source ++ s) tail) in
+    word ∙ ap (λ s. codes "rel " ++ s) (first ∙ ap (λ s. decimal source ++ s) tail) in
     whole ∙ sym (append_assoc (codes "rel " ++ decimal source ++ codes " ") (decimal target) after_target
     ∙ append_assoc (codes "rel " ++ decimal source) (codes " ") (decimal target ++ after_target)
     ∙ append_assoc (codes "rel ") (decimal source) (codes " " ++ (decimal target ++ after_target)))
@@ -35,7 +35,7 @@ pub arc_line-last : (nodes : ℕ) (text after : List ℕ) (source target : ℕ) 
 arc_line-last nodes text [] source target few below_source below_target is none = record {
   line = arc_text (source, target);
   lines = ap lines_of (is ∙ append-nil (arc_text (source, target)))
-    ∙ lines_of-last 114 _ (Lacks-arc_text nodes (source, target) few (below_source, below_target));
+      ∙ lines_of-last 114 _ (Lacks-arc_text nodes (source, target) few (below_source, below_target));
   says = arc_of-arc_text nodes (source, target) few (below_source, below_target);
   joins = (below_source, below_target);
   shorter = omega (arith, ap length is);

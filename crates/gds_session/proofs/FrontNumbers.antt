@@ -19,7 +19,7 @@ decimal-front text place value some inside digits writes small lone =
     let first : get_or (take place text) 0 0 ≡ get_or text 0 0 = get_or-take place text 0 0 some in
     let filled : 0 < length (take place text) = omega arith in
     let alone = (λ (zero : get_or (take place text) 0 0 ≡ 48). let short : place ≤ 1 = lone (sym first ∙ zero) in
-      let one : length (take place text) ≡ 1 = omega arith in one) in
+    let one : length (take place text) ≡ 1 = omega arith in one) in
     let below : digits_value 10 (take place text) < 2 ^ 64 = omega (arith, writes) in
     let is : decimal (digits_value 10 (take place text)) ≡ take place text = decimal-digits_value own (take place text) digits filled alone below in
     sym (take-append-drop place text) ∙ ap (λ front. front ++ drop place text) (sym is ∙ ap decimal writes)

@@ -16,8 +16,8 @@ pub line_written_back : (node degree start space end : ℕ) (empty second first 
     → drop start first ≡ line_of_degree node degree
 line_written_back node degree start space end empty second first last inside wrote_degree wrote_node =
     let feed : drop end (slice_set empty end 10) ≡ codes "\n" =
-      drop-set empty end 10 (omega arith) ∙ ap (λ rest. 10 ∷ rest) (drop_all (end + 1) empty (omega arith)) in
+    drop-set empty end 10 (omega arith) ∙ ap (λ rest. 10 ∷ rest) (drop_all (end + 1) empty (omega arith)) in
     let back : drop space (slice_set second space 32) ≡ codes " " ++ (decimal degree ++ codes "\n") =
-      drop-set second space 32 inside ∙ ap (λ rest. 32 ∷ rest) (wrote_degree ∙ ap (λ rest. decimal degree ++ rest) feed) in
+    drop-set second space 32 inside ∙ ap (λ rest. 32 ∷ rest) (wrote_degree ∙ ap (λ rest. decimal degree ++ rest) feed) in
     wrote_node ∙ ap (λ rest. decimal node ++ rest) back
     ∙ sym (append_assoc (decimal node ++ codes " ") (decimal degree) (codes "\n") ∙ append_assoc (decimal node) (codes " ") (decimal degree ++ codes "\n"))

@@ -13,8 +13,10 @@ pub overflow_add-value : goal.overflow_add-value
 overflow_add-value c =
     let few : c.loop-place.place ≤ 7 = omega (arith, c.split_at.ensures.front_len) in
     omega (
-      arith, c.from.ensures, c.if-not-is_ascii_digit.ensures.cases,
-      digits_value-seven c.args.text.now c.loop-place.place c.loop-place.value few c.loop-place.invariant.digits c.loop-place.invariant.value
+      arith,
+      c.from.ensures,
+      c.if-not-is_ascii_digit.ensures.cases,
+      digits_value-seven c.args.text.now c.loop-place.place c.loop-place.value few c.loop-place.invariant.digits c.loop-place.invariant.value,
     )
 
 pub loop-place-preserved : goal.loop-place-preserved
@@ -22,7 +24,7 @@ loop-place-preserved c =
     let place = c.loop-place.place in
     let text = c.args.text.now in
     let same : get_or c.split_at.result.0.now place 0 ≡ get_or text place 0 =
-      ap (λ (front : List ℕ). get_or front place 0) c.split_at.ensures.front ∙ get_or-take c.min.result text place 0 (omega (arith, c.split_at.ensures.front_len)) in
+    ap (λ (front : List ℕ). get_or front place 0) c.split_at.ensures.front ∙ get_or-take c.min.result text place 0 (omega (arith, c.split_at.ensures.front_len)) in
     let inside : place < length text = omega (arith, c.split_at.ensures.front_len, c.min.ensures) in
     let here = c.if-not-is_ascii_digit.ensures in
     record {

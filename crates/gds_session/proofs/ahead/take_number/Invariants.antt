@@ -7,5 +7,5 @@ use Rattle.gds_session.proofs.ahead.take_number.Given as goal
 abbrev pub invariant-loop-place : goal.invariant-loop-place
 invariant-loop-place l = record {
   digits : all_ascii_digits (take l.place l.text) ≡ true;
-  value : digits_value 10 (take l.place l.text) ≡ l.value
+  value : digits_value 10 (take l.place l.text) ≡ l.value;
 }

@@ -23,7 +23,7 @@ returns-clause-line c =
     let second = c.write_digits-space.new.buf in
     let one : start - 1 + 1 ≡ start = omega (arith, long, c.write_digits-space.ensures.start) in
     let inside : start - 1 < length second =
-      omega (arith, length-set {A = ℕ}, c.write_digits-space.auto.buf, c.told-line, c.write_digits-space.ensures.start) in
+    omega (arith, length-set {A = ℕ}, c.write_digits-space.auto.buf, c.told-line, c.write_digits-space.ensures.start) in
     line_written_back c.args.node c.args.degree c.write_digits.result (start - 1) 41 c.args.line.now second c.write_digits.new.buf
     (omega (arith, c.told-line)) inside (ap (λ n. drop n second) one ∙ c.write_digits-space.ensures.written)
     (c.write_digits.ensures.written ∙ ap (λ n. decimal n ++ drop (start - 1) (slice_set second (start - 1) 32)) c.from.ensures)
