@@ -1,0 +1,6 @@
+-- Lemmas on the definitions of specs/.
+pub mod LawLemmas
+pub mod ListLemmas
+pub mod LivingLemmas
+pub mod OrderLemmas
+pub mod ValidLemmas

@@ -4,7 +4,7 @@
 --   change_answer g c    what a change answers
 --   IsWellFormedChange c       what must hold of a change alone
 --   ChangeFits g c       a change that can be made
-use Rattle.std.specs.Prelude.{◌≡◌, ◌≢◌, ℕ, ◌+◌, ◌-◌, ◌<◌, ◌==◌, nat_lt, ℤ, Bool, not, ◌&&◌, if◌then◌else◌, IsTrue, List, [], ◌∷◌, ◌++◌, length, map, filter, find, Option, Some, None}
+use Rattle.std.specs.Prelude.{◌≡◌, ◌≢◌, ℕ, ◌+◌, ◌-◌, ◌<◌, ◌==◌, nat_lt, ℤ, Bool, not, ◌&&◌, if◌then◌else◌, List, [], ◌∷◌, ◌++◌, length, map, filter, find, Option, Some, None}
 use Rattle.std.specs.Option.{option_map}
 use Rattle.std.specs.List.{AllByRecursion, flat_map, list_any}
 use Rattle.std.specs.Ordering.{nat_cmp, is_lt}
@@ -25,7 +25,6 @@ use Rattle.graph_model.specs.declared.change.ChangeReply.{ChangeReply}
 use Rattle.graph_model.specs.declared.change.ChangeReply.TheVariants.{Created, «Set», Deleted}
 use Rattle.graph_model.specs.declared.refusal.Refusal.{Refusal}
 use Rattle.graph_model.specs.declared.refusal.Refusal.TheVariants.{NoSuchEntity, Full}
-use Rattle.graph_model.specs.declared.refusal.EntityKind.{EntityKind}
 use Rattle.graph_model.specs.declared.refusal.EntityKind.TheVariants as kind
 use Rattle.graph_model.specs.declared.refusal.Quantity.{Quantity}
 use Rattle.graph_model.specs.declared.refusal.Quantity.TheVariants as quantity

@@ -3,7 +3,7 @@
 --   value_count g                            how many values its elements store
 --   IsValidGraph g                           ids, ends, labels and keys are in order
 --   IsWithinLimits g                         it has no more elements and values than a graph may have
-use Rattle.std.specs.Prelude.{◌≡◌, ℕ, ◌+◌, ◌<◌, ◌≤◌, ◌==◌, Bool, ◌&&◌, IsTrue, List, length, sum_by}
+use Rattle.std.specs.Prelude.{ℕ, ◌+◌, ◌<◌, ◌≤◌, ◌==◌, Bool, IsTrue, List, length, sum_by}
 use Rattle.std.specs.List.{AllByRecursion, list_any}
 use Rattle.graph_model.specs.declared.graph.Node.{Node}
 use Rattle.graph_model.specs.declared.graph.Rel.{Rel}

@@ -1,6 +1,7 @@
 -- Definitions on property graphs, which every crate above cites.
 pub mod Arcs
 pub mod Change
+pub mod ChangeLaws
 pub mod Graph
 pub mod Lists
 pub mod Names

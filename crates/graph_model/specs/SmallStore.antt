@@ -1,5 +1,5 @@
 -- A small store on which the definitions are evaluated: six nodes, and six relationships of one type with one key.
-use Rattle.std.specs.Prelude.{ℕ, ℤ, pos, List, [], ◌∷◌, codes}
+use Rattle.std.specs.Prelude.{ℕ, pos, List, [], ◌∷◌, codes}
 use Rattle.graph_model.specs.declared.graph.Node.{Node}
 use Rattle.graph_model.specs.declared.graph.Rel.{Rel}
 use Rattle.graph_model.specs.declared.graph.Prop.{Prop}

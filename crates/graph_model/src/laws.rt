@@ -1,6 +1,7 @@
 // Laws of the definitions, each the contract of a function that does nothing.
 ghost use Rattle.std.specs.Prelude.{◌≡◌, [], ◌∷◌, Some, None, codes, pos};
 ghost use Rattle.graph_model.specs.Change.{after_change, refused_change, change_answer};
+ghost use Rattle.graph_model.specs.ChangeLaws.{FittingChangeKeepsGraph, IdsAreNotUsedAgain};
 ghost use Rattle.graph_model.specs.SmallStore.{empty_graph, make_small_store, small_store, without_node_2};
 
 use crate::change::{Change, ChangeReply};
@@ -15,4 +16,14 @@ pub fn worked_rows()
     ensures gone { change_answer small_store (Change.DeleteNodes (2 ∷ [])) ≡ ChangeReply.Deleted 1 3 }
     ensures missing { refused_change without_node_2 (Change.DeleteNodes (2 ∷ [])) ≡ Some (Refusal.NoSuchEntity EntityKind.Node 2) }
     ensures last_stays { after_change small_store (Change.SetNodes (codes "d") ((0, pos 5) ∷ (0, pos 6) ∷ [])) ≡ after_change small_store (Change.SetNodes (codes "d") ((0, pos 6) ∷ [])) }
+{}
+
+/// A change that fits keeps a graph valid, and it is within the limits afterwards.
+pub fn fitting_change_keeps_graph()
+    ensures { FittingChangeKeepsGraph }
+{}
+
+/// No change uses an id again: no counter falls, and an id that was given before and doesn't live never lives again.
+pub fn ids_are_not_used_again()
+    ensures { IdsAreNotUsedAgain }
 {}
