@@ -166,6 +166,8 @@ mod tests {
         let ends = [(3, 4), (0, 2), (2, 2), (3, 4), (0, 1), (1, 2)];
         let csr = Csr::by_source(rt.alloc(), 6, &ends)?;
         assert_eq!(rt; csr.node_count(), 6);
+        assert_eq!(rt; csr.arc_count(), 6);
+        assert!(rt; csr.keys().is_empty());
         assert_eq!(rt; csr.row(0), [2, 1].as_slice());
         assert_eq!(rt; csr.row(1), [2].as_slice());
         assert_eq!(rt; csr.row(2), [2].as_slice());
@@ -173,5 +175,15 @@ mod tests {
         assert!(rt; csr.row(4).is_empty());
         assert!(rt; csr.row(5).is_empty());
         Ok(())
+    }
+
+    const ENDS: [(u32, u32); 6] = [(0, 1), (0, 2), (1, 2), (2, 2), (3, 4), (3, 4)];
+
+    fn sample(alloc: Global) -> Result<Csr, Mem>
+        ensures { IfOk result (λ csr. length csr.rows ≡ 6) }
+    {
+        let values = vec![in alloc; 4i64, 7, 1, 0, 5, 2]?;
+        let props = one_prop(alloc, values)?;
+        Csr::build(alloc, 6, &ENDS, props)
     }
 }
