@@ -16,8 +16,8 @@ starts_of nodes arcs = map (arcs_before arcs) (range_with_len 0 (nodes + 1))
 
 starts_counted : (nodes : ℕ) (arcs : List (ℕ × ℕ)) → CountsArcs nodes arcs (starts_of nodes arcs)
 starts_counted nodes arcs = record {
-    long = length-map-range_with_len (arcs_before arcs) 0 (nodes + 1);
-    counts = λ v h. get_or-map-range_with_len (arcs_before arcs) 0 (nodes + 1) v v 0 (omega arith) (omega arith)
+  long = length-map-range_with_len (arcs_before arcs) 0 (nodes + 1);
+  counts = λ v h. get_or-map-range_with_len (arcs_before arcs) 0 (nodes + 1) v v 0 (omega arith) (omega arith);
 }
 
 starts_cut : (nodes : ℕ) (arcs : List (ℕ × ℕ)) → All (LiesBelow nodes) arcs → CutsRows (starts_of nodes arcs) (length arcs)
@@ -35,16 +35,16 @@ arcs_to-targets_of (arc ∷ arcs) v =
     let kept : List (ℕ × ℕ) = filter (leaves v) arcs in
     let rest = arcs_to-targets_of arcs v in
     ⊎_elim
-        (λ (e : leaves v arc ≡ true).
-            ap (λ (xs : List (ℕ × ℕ)). map (arc_from v) (map second xs)) (cond-true (leaves v arc) (arc ∷ kept) kept e)
-            ∙ ap (λ (s : ℕ). (s, arc.1) ∷ map (arc_from v) (map second kept)) (sym (eqb-true arc.0 v e))
-            ∙ ap (λ (xs : List (ℕ × ℕ)). arc ∷ xs) rest
-            ∙ sym (cond-true (leaves v arc) (arc ∷ kept) kept e))
-        (λ (e : leaves v arc ≡ false).
-            ap (λ (xs : List (ℕ × ℕ)). map (arc_from v) (map second xs)) (cond-false (leaves v arc) (arc ∷ kept) kept e)
-            ∙ rest
-            ∙ sym (cond-false (leaves v arc) (arc ∷ kept) kept e))
-        (cases_Bool (leaves v arc))
+    (λ (e : leaves v arc ≡ true).
+    ap (λ (xs : List (ℕ × ℕ)). map (arc_from v) (map second xs)) (cond-true (leaves v arc) (arc ∷ kept) kept e)
+    ∙ ap (λ (s : ℕ). (s, arc.1) ∷ map (arc_from v) (map second kept)) (sym (eqb-true arc.0 v e))
+    ∙ ap (λ (xs : List (ℕ × ℕ)). arc ∷ xs) rest
+    ∙ sym (cond-true (leaves v arc) (arc ∷ kept) kept e))
+    (λ (e : leaves v arc ≡ false).
+    ap (λ (xs : List (ℕ × ℕ)). map (arc_from v) (map second xs)) (cond-false (leaves v arc) (arc ∷ kept) kept e)
+    ∙ rest
+    ∙ sym (cond-false (leaves v arc) (arc ∷ kept) kept e))
+    (cases_Bool (leaves v arc))
 
 -- the rows of arcs in order, one after another
 pub arcs_of-rows_of : (nodes : ℕ) (arcs : List (ℕ × ℕ)) → All (LiesBelow nodes) arcs → IsSorted arc_cmp arcs → arcs_of (rows_of nodes arcs) ≡ arcs
@@ -53,7 +53,7 @@ arcs_of-rows_of nodes arcs below sorted =
     let starts : List ℕ = starts_of nodes arcs in
     let counted = starts_counted nodes arcs in
     let row : (v : ℕ) → v < nodes → cut_row starts arcs v ≡ arcs_at rows v =
-        λ v h. cut_row-counted nodes arcs starts arcs v counted h ∙ ascending_arcs arcs v sorted ∙ sym (ap (map (arc_from v)) (row_at-rows_of nodes arcs v h) ∙ arcs_to-targets_of arcs v) in
+    λ v h. cut_row-counted nodes arcs starts arcs v counted h ∙ ascending_arcs arcs v sorted ∙ sym (ap (map (arc_from v)) (row_at-rows_of nodes arcs v h) ∙ arcs_to-targets_of arcs v) in
     ap (λ (n : ℕ). flat_map (arcs_at rows) (range_with_len 0 n)) (length-map-range_with_len (targets_of arcs) 0 nodes)
     ∙ flat_map-listed (arcs_at rows) (range_with_len 0 nodes)
     ∙ sym (ap listed (cut_rows-counted nodes arcs starts arcs (arcs_at rows) counted row))

@@ -30,7 +30,10 @@ pub(crate) fn place_of(names: &[Name], name: &Name) -> Option<usize>
 }
 
 /// The keys and the columns of pairs, each in their order.
-pub(crate) fn apart(alloc: Global, props: List<(Name, List<i64>)>) -> Result<(List<Name>, Vec<List<i64>>), Mem>
+pub(crate) fn apart(
+    alloc: Global,
+    props: List<(Name, List<i64>)>,
+) -> Result<(List<Name>, Vec<List<i64>>), Mem>
     ensures keys { IfOk result (λ parts. parts.0 ≡ map (λ prop. prop.0) props) }
     ensures columns { IfOk result (λ parts. parts.1.items ≡ map (λ prop. prop.1) props) }
 {
@@ -44,7 +47,11 @@ pub(crate) fn apart(alloc: Global, props: List<(Name, List<i64>)>) -> Result<(Li
 }
 
 /// The items at places, in the order of the places.
-pub(crate) fn pick<T: Copy + Drop>(alloc: Global, items: &[T], places: &[u32]) -> Result<Vec<T>, Mem>
+pub(crate) fn pick<T: Copy + Drop>(
+    alloc: Global,
+    items: &[T],
+    places: &[u32],
+) -> Result<Vec<T>, Mem>
     requires { All (λ place. place < length items.now) places.now }
     ensures { IfOk result (λ picked. (d : T) → picked.items ≡ map (item_at items.now d) places.now) }
 {
@@ -56,7 +63,11 @@ pub(crate) fn pick<T: Copy + Drop>(alloc: Global, items: &[T], places: &[u32]) -
 }
 
 /// The items of each column at places.
-pub(crate) fn pick_each(alloc: Global, columns: &[List<i64>], places: &[u32]) -> Result<Vec<List<i64>>, Mem>
+pub(crate) fn pick_each(
+    alloc: Global,
+    columns: &[List<i64>],
+    places: &[u32],
+) -> Result<Vec<List<i64>>, Mem>
     requires { All (λ column. All (λ place. place < length column) places.now) columns.now }
     ensures { IfOk result (λ picked. picked.items ≡ map (picked_column places.now) columns.now) }
 {
