@@ -2,5 +2,6 @@ pub mod ArcCounts
 pub mod Placing
 pub mod Ascending
 pub mod OffsetRows
+pub mod Listing
 pub mod Shown
 pub mod TurnedRows

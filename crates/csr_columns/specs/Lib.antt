@@ -1,3 +1,4 @@
 -- Rows of arcs, and how offsets keep them.
 pub mod Rows
 pub mod Offsets
+pub mod Laws

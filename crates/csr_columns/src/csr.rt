@@ -167,19 +167,72 @@ impl Csr {
 #[cfg(test)]
 mod tests {
     use super::*;
+    use std::process::Abort;
     use std::test::Fail;
 
+    const ENDS: [(u32, u32); 6] = [(0, 1), (0, 2), (1, 2), (2, 2), (3, 4), (3, 4)];
+
+    fn sample(alloc: Global) -> Result<Csr, Fail>
+        ensures { IfOk result (λ csr. length csr.rows ≡ 6) }
+    {
+        let values = vec![in alloc; 4, 7, 1, 0, 5, 2]?;
+        let mut props = List::new(alloc);
+        props.push((Name::read(alloc, b"w")?, List::from_vec(values)))?;
+        Ok(Csr::build(alloc, 6, &ENDS, props)?)
+    }
+
+    fn expect_rows(rt: &impl Abort, csr: &Csr, rows: [&[u32]; 6])
+        requires { length csr.now.rows ≡ 6 }
+    {
+        for (v, row) in rows.iter().enumerate() {
+            assert_eq!(rt; csr.row(v as u32), *row, "of node {v}");
+        }
+    }
+
+    fn expect_values(rt: &impl Abort, csr: &Csr, key: &Name, rows: [&[i64]; 6])
+        requires { length csr.now.rows ≡ 6 }
+    {
+        for (v, row) in rows.iter().enumerate() {
+            assert_eq!(rt; csr.prop(key, v as u32), Some(*row), "of node {v}");
+        }
+    }
+
     #[test]
-    fn rows_of_unordered_arcs(rt: HostRuntime) -> Result<(), Fail> {
+    fn arcs_in_any_order(rt: HostRuntime) -> Result<(), Fail> {
         let ends = [(3, 4), (0, 2), (2, 2), (3, 4), (0, 1), (1, 2)];
         let csr = Csr::by_source(rt.alloc(), 6, &ends)?;
         assert_eq!(rt; csr.node_count(), 6);
-        assert_eq!(rt; csr.row(0), [2, 1].as_slice());
-        assert_eq!(rt; csr.row(1), [2].as_slice());
-        assert_eq!(rt; csr.row(2), [2].as_slice());
-        assert_eq!(rt; csr.row(3), [4, 4].as_slice());
-        assert!(rt; csr.row(4).is_empty());
-        assert!(rt; csr.row(5).is_empty());
+        assert_eq!(rt; csr.arc_count(), 6);
+        expect_rows(&rt, &csr, [&[2, 1], &[2], &[2], &[4, 4], &[], &[]]);
+        Ok(())
+    }
+
+    #[test]
+    fn arcs_with_values(rt: HostRuntime) -> Result<(), Fail> {
+        let csr = sample(rt.alloc())?;
+        expect_rows(&rt, &csr, [&[1, 2], &[2], &[2], &[4, 4], &[], &[]]);
+        let key = Name::read(rt.alloc(), b"w")?;
+        assert!(rt; csr.keys() == [key.try_clone()?].as_slice());
+        expect_values(&rt, &csr, &key, [&[4, 7], &[1], &[0], &[5, 2], &[], &[]]);
+        Ok(())
+    }
+
+    #[test]
+    fn turned_arcs(rt: HostRuntime) -> Result<(), Fail> {
+        let csr = sample(rt.alloc())?.reverse(rt.alloc())?;
+        assert_eq!(rt; csr.node_count(), 6);
+        expect_rows(&rt, &csr, [&[], &[0], &[0, 1, 2], &[], &[3, 3], &[]]);
+        let key = Name::read(rt.alloc(), b"w")?;
+        expect_values(&rt, &csr, &key, [&[], &[4], &[7, 1, 0], &[], &[5, 2], &[]]);
+        Ok(())
+    }
+
+    #[test]
+    fn missing_key(rt: HostRuntime) -> Result<(), Fail> {
+        let csr = sample(rt.alloc())?;
+        let key = Name::read(rt.alloc(), b"v")?;
+        assert!(rt; csr.prop(&key, 0).is_none());
+        assert!(rt; csr.place_of(&key).is_none());
         Ok(())
     }
 }

@@ -4,6 +4,7 @@
 mod columns;
 mod counting;
 mod csr;
+pub mod laws;
 mod turning;
 
 pub use csr::Csr;
