@@ -1,8 +1,8 @@
 // The worked rows of `once degree` and the edges of its format, over sources and sinks in memory.
-ghost use Rattle.std.specs.Prelude.{◌<◌};
+ghost use Rattle.std.specs.Prelude.{◌<◌, None};
 
 use crate::{End, run};
-use gds_causes::{MemSink, MemSource};
+use gds_causes::{Failed, MemSink, MemSource, Sink};
 use graph_model::{List, Mem};
 use std::alloc::Global;
 use std::process::Abort;
@@ -156,7 +156,10 @@ fn names_the_first_line_that_breaks_the_format(rt: HostRuntime) -> Result<(), Fa
         if line == 0 {
             assert_eq!(rt; end, End::Done, "{text:?}");
         } else {
-            assert_eq!(rt; end, End::BadInput { line }, "{text:?}");
+            let mut told = String::new(rt.alloc());
+            assert_eq!(rt; end.report(&mut told)?, 3, "{text:?}");
+            let wanted = format!(in rt.alloc(); "gds: bad input at line {line}\n")?;
+            assert_eq!(rt; told.as_str(), wanted.as_str(), "{text:?}");
             assert!(rt; printed.is_empty());
         }
     }
@@ -181,6 +184,51 @@ fn reports_each_end(rt: HostRuntime) -> Result<(), Fail> {
         let mut out = String::new(rt.alloc());
         assert_eq!(rt; end.report(&mut out)?, status);
         assert_eq!(rt; out.as_str(), text);
+    }
+    Ok(())
+}
+
+// A sink that takes everything, and counts how often it is flushed or fails to be.
+#[derive(Drop)]
+struct Flushed {
+    fails: bool,
+    flushes: u64,
+    faults: u64,
+}
+
+impl Sink for Flushed {
+    ghost taken = { λ _. None };
+
+    ghost faults = { λ sink. sink.faults };
+
+    fn write(&mut self, from: &[u8]) -> Result<usize, Failed> {
+        Ok(from.len())
+    }
+
+    fn flush(&mut self) -> Result<(), Failed> {
+        if self.fails {
+            self.faults = self.faults.saturating_add(1);
+            return Err(Failed);
+        }
+        self.flushes = self.flushes.saturating_add(1);
+        Ok(())
+    }
+}
+
+#[test]
+fn flushes_at_the_end(rt: HostRuntime) -> Result<(), Fail> {
+    for (fails, wanted, flushes) in [(false, End::Done, 1), (true, End::WriteFault, 0)] {
+        let words = words_of(rt.alloc(), &["once", "degree"])?;
+        let text = Vec::from_slice(rt.alloc(), b"nodes 1\n")?;
+        let mut source = MemSource::new(text, 64, Vec::new(rt.alloc()));
+        let mut sink = Flushed {
+            fails,
+            flushes: 0,
+            faults: 0,
+        };
+        let end = run(rt.alloc(), &words, &mut source, &mut sink, AMPLE);
+        assert_eq!(rt; end, wanted);
+        assert_eq!(rt; sink.flushes, flushes);
     }
     Ok(())
 }
