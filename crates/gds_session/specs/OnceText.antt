@@ -11,13 +11,8 @@ use Rattle.std.specs.List.{starts_with, before_first, after_first, flat_map, ran
 use Rattle.std.specs.Str.{all_ascii_digits}
 use Rattle.std.specs.Str.Parse.{digits_value}
 use Rattle.graph_model.specs.Arcs.{degree_of}
-
 -- the most nodes and the most relationships that an input has
-abbrev pub most_nodes : ℕ
-most_nodes = 4194304
-
-abbrev pub most_arcs : ℕ
-most_arcs = 16777216
+pub use Rattle.graph_model.specs.Graph.{most_nodes, most_rels as most_arcs}
 
 -- a byte stands at the front of the first line
 abbrev pub onto_first : ℕ → List (List ℕ) → List (List ℕ)
