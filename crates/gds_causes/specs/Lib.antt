@@ -1,2 +1,6 @@
 -- What a source, a sink and their counts of faults tell.
 pub mod Faults
+pub mod MemSource
+pub mod MemSink
+pub mod Front
+pub mod Counted

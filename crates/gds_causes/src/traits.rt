@@ -1,7 +1,8 @@
 // The two traits of the outside, and `write_all` over any sink.
-ghost use Rattle.std.specs.Prelude.{ℕ, List, Option, ◌<◌, ◌≤◌, length, IfOk, OnErr};
-ghost use Rattle.std.specs.Io.KnownBytes.{Keeps, ReadConsumes, WriteAppends};
+ghost use Rattle.std.specs.Prelude.{ℕ, List, Option, ◌<◌, ◌≤◌, length, IfOk, OnOk, OnErr};
+ghost use Rattle.std.specs.Io.KnownBytes.{Appends, Keeps, ReadConsumes, WriteAppends};
 ghost use Rattle.gds_causes.specs.Faults.{Rose};
+ghost use Rattle.gds_causes.specs.Front.{AppendsFront};
 
 /// A read, a write or a flush failed. The count of faults of the object that was asked rose in that call.
 #[derive(Clone, Copy, Debug, PartialEq, Eq)]
@@ -53,4 +54,21 @@ pub trait Sink {
         ensures bytes { Keeps (taken self.old) (taken self.new) }
         ensures fault { OnErr result (Rose (faults self.old) (faults self.new)) }
         ensures later { faults self.old ≤ faults self.new };
+}
+
+/// Writes all of `from`, a piece after another.
+///
+/// # Errors
+/// `Failed` where a write failed. Then the sink took a front of `from`.
+pub fn write_all<W: Sink>(sink: &mut W, from: &[u8]) -> Result<(), Failed>
+    ensures ok { OnOk result (Appends (W.taken sink.old) (W.taken sink.new) from.now) }
+    ensures err { OnErr result (AppendsFront (W.taken sink.old) (W.taken sink.new) from.now) }
+    ensures fault { OnErr result (Rose (W.faults sink.old) (W.faults sink.new)) }
+    ensures later { W.faults sink.old ≤ W.faults sink.new }
+{
+    let mut at = 0;
+    while at < from.len() {
+        at += sink.write(&from[at..])?;
+    }
+    Ok(())
 }

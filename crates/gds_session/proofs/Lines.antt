@@ -33,11 +33,11 @@ joined line (next ∷ lines) = line ++ (10 ∷ joined next lines)
 abbrev pub AreFilled : List (List ℕ) → Type 0
 AreFilled lines = AllByRecursion (λ line. (0 < length line) × Lacks 10 line) lines
 
-lines_of-line : (line rest : List ℕ) → Lacks 10 line → lines_of (line ++ (10 ∷ rest)) ≡ line ∷ lines_of rest
+pub lines_of-line : (line rest : List ℕ) → Lacks 10 line → lines_of (line ++ (10 ∷ rest)) ≡ line ∷ lines_of rest
 lines_of-line [] rest p = refl
 lines_of-line (b ∷ line) rest p = rw (p.0, lines_of-line line rest p.1)
 
-lines_of-last : (b : ℕ) (line : List ℕ) → Lacks 10 (b ∷ line) → lines_of (b ∷ line) ≡ (b ∷ line) ∷ []
+pub lines_of-last : (b : ℕ) (line : List ℕ) → Lacks 10 (b ∷ line) → lines_of (b ∷ line) ≡ (b ∷ line) ∷ []
 lines_of-last b [] p = rw p.0
 lines_of-last b (c ∷ line) p = rw (p.0, lines_of-last c line p.1)
 

@@ -10,7 +10,7 @@ use Rattle.std.proofs.lemmas.Fmt.{digits_decimal, digits_value-decimal, decimal-
 use Rattle.gds_session.specs.OnceText.{is_decimal, number_below}
 use Rattle.gds_session.proofs.Lines.{Lacks}
 
-own : IsNumeralModel (λ ds. all_ascii_digits ds ≡ true) (digits_value 10)
+pub own : IsNumeralModel (λ ds. all_ascii_digits ds ≡ true) (digits_value 10)
 own = numerals_by_value _ tells_all_ascii_digits
 
 -- what a text of decimal digits is: digits, at least one, and a 0 in front only where it is alone

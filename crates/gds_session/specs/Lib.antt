@@ -1,3 +1,6 @@
 -- What the commands read and print.
+pub mod Ending
 pub mod OnceText
 pub mod Printing
+pub mod Reading
+pub mod Status

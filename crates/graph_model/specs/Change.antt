@@ -114,7 +114,7 @@ after_change g (Create nodes rels) = record {
   nodes = g.nodes ++ created_nodes g.next_node nodes;
   rels = g.rels ++ created_rels g.next_node g.next_rel rels;
   next_node = g.next_node + length nodes;
-  next_rel = g.next_rel + length rels
+  next_rel = g.next_rel + length rels;
 }
 after_change g (SetNodes key values) = record g { nodes = map (node_after key values) g.nodes }
 after_change g (SetRels key values) = record g { rels = map (rel_after key values) g.rels }

@@ -46,7 +46,7 @@ small_store = record {
   nodes = small_node 0 ∷ small_node 1 ∷ small_node 2 ∷ small_node 3 ∷ small_node 4 ∷ small_node 5 ∷ [];
   rels = small_rel 0 0 1 4 ∷ small_rel 1 1 2 1 ∷ small_rel 2 0 2 7 ∷ small_rel 3 2 2 0 ∷ small_rel 4 3 4 5 ∷ small_rel 5 3 4 2 ∷ [];
   next_node = 6;
-  next_rel = 6
+  next_rel = 6;
 }
 
 -- the small store without its node 2
@@ -55,5 +55,5 @@ without_node_2 = record {
   nodes = small_node 0 ∷ small_node 1 ∷ small_node 3 ∷ small_node 4 ∷ small_node 5 ∷ [];
   rels = small_rel 0 0 1 4 ∷ small_rel 4 3 4 5 ∷ small_rel 5 3 4 2 ∷ [];
   next_node = 6;
-  next_rel = 6
+  next_rel = 6;
 }

@@ -47,9 +47,13 @@ pub enum Change {
         values: List<(u32, i64)>,
     },
     /// Deletes nodes and every relationship at them.
-    DeleteNodes { ids: List<u32> },
+    DeleteNodes {
+        ids: List<u32>,
+    },
     /// Deletes relationships.
-    DeleteRels { ids: List<u32> },
+    DeleteRels {
+        ids: List<u32>,
+    },
 }
 
 /// What a change answers.
@@ -63,7 +67,12 @@ pub enum ChangeReply {
         rels: u32,
     },
     /// How many pairs were set.
-    Set { pairs: u64 },
+    Set {
+        pairs: u64,
+    },
     /// How many nodes and relationships ceased to live.
-    Deleted { nodes: u32, rels: u32 },
+    Deleted {
+        nodes: u32,
+        rels: u32,
+    },
 }

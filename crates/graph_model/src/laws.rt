@@ -15,5 +15,4 @@ pub fn worked_rows()
     ensures gone { change_answer small_store (Change.DeleteNodes (2 ∷ [])) ≡ ChangeReply.Deleted 1 3 }
     ensures missing { refused_change without_node_2 (Change.DeleteNodes (2 ∷ [])) ≡ Some (Refusal.NoSuchEntity EntityKind.Node 2) }
     ensures last_stays { after_change small_store (Change.SetNodes (codes "d") ((0, pos 5) ∷ (0, pos 6) ∷ [])) ≡ after_change small_store (Change.SetNodes (codes "d") ((0, pos 6) ∷ [])) }
-{
-}
+{}

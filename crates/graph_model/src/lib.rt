@@ -9,6 +9,8 @@ mod memory;
 mod name;
 mod refusal;
 mod shared;
+#[cfg(test)]
+mod tests;
 mod text;
 
 pub use change::{Change, ChangeReply, NewNode, NewRel, Place};

@@ -65,7 +65,10 @@ pub enum Refusal {
     /// The head of an HTTP request breaks the rules for heads.
     BadHttp,
     /// The head, the body or the line is longer than its limit in bytes.
-    TooLong { what: LongPart, limit: u64 },
+    TooLong {
+        what: LongPart,
+        limit: u64,
+    },
     /// An HTTP request has no Content-Length.
     LengthRequired,
     /// An HTTP request has a Transfer-Encoding.
@@ -75,19 +78,34 @@ pub enum Refusal {
     /// The text is no JSON.
     BadJson,
     /// An argument is missing, unknown or of a wrong form. `row` is the row of a CSV text, counted from 1, and 0 elsewhere.
-    BadArgument { at: List<u8>, row: u64 },
+    BadArgument {
+        at: List<u8>,
+        row: u64,
+    },
     /// The caller has a graph of this name.
-    GraphExists { graph_name: Tag },
+    GraphExists {
+        graph_name: Tag,
+    },
     /// The caller has no graph of this name.
-    NoSuchGraph { graph_name: Tag },
+    NoSuchGraph {
+        graph_name: Tag,
+    },
     /// The label isn't known.
-    NoSuchLabel { label: Name },
+    NoSuchLabel {
+        label: Name,
+    },
     /// The type isn't known.
-    NoSuchType { rel_type: Name },
+    NoSuchType {
+        rel_type: Name,
+    },
     /// The key isn't known.
-    NoSuchProperty { key: Name },
+    NoSuchProperty {
+        key: Name,
+    },
     /// A projected type keeps arcs and groups them at once.
-    MixedAggregation { rel_type: Name },
+    MixedAggregation {
+        rel_type: Name,
+    },
     /// The sum of a key over the relationships between two nodes leaves i64. The ends are node ids.
     SumOutOfRange {
         rel_type: Name,
@@ -96,11 +114,19 @@ pub enum Refusal {
         target: u32,
     },
     /// No filter has this token here. `byte` is its place in the text, counted from 0.
-    FilterSyntax { filter: Side, byte: u32 },
+    FilterSyntax {
+        filter: Side,
+        byte: u32,
+    },
     /// An operand of a filter is of the wrong kind. `byte` is its place in the text, counted from 0.
-    FilterType { filter: Side, byte: u32 },
+    FilterType {
+        filter: Side,
+        byte: u32,
+    },
     /// A chosen type isn't undirected.
-    NotUndirected { rel_type: Name },
+    NotUndirected {
+        rel_type: Name,
+    },
     /// An arc weighs less than 0 or more than 4,294,967,295. The ends are node ids.
     WeightOutOfRange {
         source: u32,
@@ -108,15 +134,26 @@ pub enum Refusal {
         weight: i64,
     },
     /// The named graph has this key.
-    PropertyExists { key: Name },
+    PropertyExists {
+        key: Name,
+    },
     /// No element with this id is there.
-    NoSuchEntity { kind: EntityKind, id: u32 },
+    NoSuchEntity {
+        kind: EntityKind,
+        id: u32,
+    },
     /// The caller has a job of this name.
-    JobExists { job_id: Tag },
+    JobExists {
+        job_id: Tag,
+    },
     /// The caller has no job of this name.
-    NoSuchJob { job_id: Tag },
+    NoSuchJob {
+        job_id: Tag,
+    },
     /// The job was asked to end. `batches` is how many batches it had done.
-    Terminated { batches: u32 },
+    Terminated {
+        batches: u32,
+    },
     /// The named graph isn't the one that the job began on: its version was `had` and is `now_`, which is 0 for no graph.
     GraphGone {
         graph_name: Tag,
@@ -130,15 +167,24 @@ pub enum Refusal {
         batches: u32,
     },
     /// The caller has as many graphs as a user may have.
-    TooManyGraphs { limit: u64 },
+    TooManyGraphs {
+        limit: u64,
+    },
     /// The caller has as many jobs as a user may have.
-    TooManyJobs { limit: u64 },
+    TooManyJobs {
+        limit: u64,
+    },
     /// The keeper could not commit. `batches` is how many batches the job had done, and 0 outside a write.
-    StoreFault { batches: u32 },
+    StoreFault {
+        batches: u32,
+    },
     /// No memory was to be had.
     Mem,
     /// A counter of the caller stands at its last number.
-    CounterSpent { counter: Counter, last: u64 },
+    CounterSpent {
+        counter: Counter,
+        last: u64,
+    },
 }
 
 impl From<Mem> for Refusal {

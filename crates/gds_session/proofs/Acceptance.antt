@@ -32,7 +32,7 @@ unlines-arc_texts (arc ∷ arcs) = ap (λ rest. arc_line arc ++ rest) (unlines-a
 unlines-printed_lines : (nodes : ℕ) (arcs : List (ℕ × ℕ)) → unlines (printed_lines nodes arcs) ≡ printing nodes arcs
 unlines-printed_lines nodes arcs = ap (λ rest. node_text nodes ++ codes "\n" ++ rest) (unlines-arc_texts arcs)
 
-Lacks-arc_text : (nodes : ℕ) (arc : ℕ × ℕ) → nodes ≤ 2 ^ 64 → JoinsNodes nodes arc → Lacks 10 (arc_text arc)
+pub Lacks-arc_text : (nodes : ℕ) (arc : ℕ × ℕ) → nodes ≤ 2 ^ 64 → JoinsNodes nodes arc → Lacks 10 (arc_text arc)
 Lacks-arc_text nodes arc few joins =
     let source = Lacks-decimal 10 arc.0 (omega arith) (omega (arith, joins.0)) in
     let target = Lacks-decimal 10 arc.1 (omega arith) (omega (arith, joins.1)) in

@@ -1,0 +1,6 @@
+pub mod ArcCounts
+pub mod Placing
+pub mod Ascending
+pub mod OffsetRows
+pub mod Shown
+pub mod TurnedRows

@@ -1,0 +1,11 @@
+use Rattle.std.proofs.Common.{◌≡◌, ℕ, ◌<◌, List, Some, None, MatchOption, length, subst}
+use Rattle.csr_columns.specs.Rows.{ArcRows, column_at, under}
+use Rattle.csr_columns.proofs.Shown.{place-shown}
+use Rattle.csr_columns.proofs.csr.Csr.place_of.Goals as goal
+
+pub returns : goal.returns
+returns c =
+    let inside = c.self.inside in
+    let found = rw c.as_slice.ensures.value at c.place_of.ensures in
+    subst (λ (r : ArcRows). MatchOption c.place_of.result (under c.args.key.now r.columns ≡ None) (λ place. (place < length r.columns) × (under c.args.key.now r.columns ≡ Some (column_at r.columns place)))) c.self.view_is
+    (place-shown inside.offsets.items inside.targets.items inside.keys inside.columns.items c.args.key.now c.place_of.result c.self.invariant.named found)

@@ -1,0 +1,3 @@
+-- Rows of arcs, and how offsets keep them.
+pub mod Rows
+pub mod Offsets

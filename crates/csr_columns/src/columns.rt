@@ -1,0 +1,79 @@
+// Slices of columns: cut into rows, picked by places, and found under keys.
+ghost use Rattle.std.specs.Prelude.{◌≡◌, ◌+◌, ◌<◌, length, map, All, MatchOption, IfOk};
+ghost use Rattle.csr_columns.specs.Offsets.{CutsRows, IsFirstNamed, IsUnnamed, cut_row, item_at, picked_column};
+
+use graph_model::{List, Mem, Name};
+use std::alloc::Global;
+
+/// The row of `v` in a list that offsets cut into rows.
+#[inline]
+pub(crate) fn cut<'a, T>(offsets: &[u32], items: &'a [T], v: u32) -> &'a [T]
+    requires cuts { CutsRows offsets.now (length items.now) }
+    requires below { v + 1 < length offsets.now }
+    ensures { result.now ≡ cut_row offsets.now items.now v }
+{
+    let start = offsets[v as usize] as usize;
+    let end = offsets[v as usize + 1] as usize;
+    &items[start..end]
+}
+
+/// The place of a name in a list of names.
+pub(crate) fn place_of(names: &[Name], name: &Name) -> Option<usize>
+    ensures { MatchOption result (IsUnnamed names.now name.now (length names.now)) (IsFirstNamed names.now name.now) }
+{
+    for (place, each) in names.iter().enumerate() {
+        if each == name {
+            return Some(place);
+        }
+    }
+    None
+}
+
+/// The keys and the columns of pairs, each in their order.
+pub(crate) fn apart(
+    alloc: Global,
+    props: List<(Name, List<i64>)>,
+) -> Result<(List<Name>, Vec<List<i64>>), Mem>
+    ensures keys { IfOk result (λ parts. parts.0 ≡ map (λ prop. prop.0) props) }
+    ensures columns { IfOk result (λ parts. parts.1.items ≡ map (λ prop. prop.1) props) }
+{
+    let mut keys = List::new(alloc);
+    let mut columns = Vec::new(alloc);
+    for (key, column) in props.into_vec() {
+        keys.push(key)?;
+        columns.push(column)?;
+    }
+    Ok((keys, columns))
+}
+
+/// The items at places, in the order of the places.
+pub(crate) fn pick<T: Copy + Drop>(
+    alloc: Global,
+    items: &[T],
+    places: &[u32],
+) -> Result<Vec<T>, Mem>
+    requires { All (λ place. place < length items.now) places.now }
+    ensures { IfOk result (λ picked. (d : T) → picked.items ≡ map (item_at items.now d) places.now) }
+{
+    let mut picked = Vec::with_capacity(alloc, places.len())?;
+    for place in places {
+        picked.push(items[*place as usize])?;
+    }
+    Ok(picked)
+}
+
+/// The items of each column at places.
+pub(crate) fn pick_each(
+    alloc: Global,
+    columns: &[List<i64>],
+    places: &[u32],
+) -> Result<Vec<List<i64>>, Mem>
+    requires { All (λ column. All (λ place. place < length column) places.now) columns.now }
+    ensures { IfOk result (λ picked. picked.items ≡ map (picked_column places.now) columns.now) }
+{
+    let mut picked = Vec::new(alloc);
+    for column in columns {
+        picked.push(List::from_vec(pick(alloc, column.as_slice(), places)?))?;
+    }
+    Ok(picked)
+}

@@ -1,0 +1,9 @@
+//! Rows of arcs in columns: the arcs of a property graph by their source, with a column of values per key.
+#![tactic(auto)]
+
+mod columns;
+mod counting;
+mod csr;
+mod turning;
+
+pub use csr::Csr;

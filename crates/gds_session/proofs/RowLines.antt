@@ -1,0 +1,24 @@
+-- The lines of rows of arcs are those of the degrees.
+use Rattle.std.proofs.Common.{◌≡◌, ℕ, zero, suc, ◌+◌, List, [], ◌∷◌, ◌++◌, map, filter, count_by, length, refl, ap, ap₂, sym, ◌∙◌}
+use Rattle.std.proofs.lemmas.List.{length-map}
+use Rattle.std.proofs.lemmas.List.Sums.{length-filter}
+use Rattle.std.specs.List.{flat_map, range_with_len}
+use Rattle.graph_model.specs.Arcs.{leaves, targets_of, degree_of}
+use Rattle.csr_columns.specs.Rows.{rows_of}
+use Rattle.gds_session.specs.OnceText.{degree_line, degree_lines}
+use Rattle.gds_session.specs.Ending.{line_of_degree, lines_of_rows}
+
+-- a row is as long as the degree of its node
+length-targets_of : (arcs : List (ℕ × ℕ)) (v : ℕ) → length (targets_of arcs v) ≡ degree_of arcs v
+length-targets_of arcs v = length-map (filter (leaves v) arcs) (λ arc. arc.1) ∙ length-filter (leaves v) arcs
+
+-- the lines of the rows of some nodes are those of their degrees
+lines_of_rows-range : (arcs : List (ℕ × ℕ)) (v n : ℕ)
+    → lines_of_rows v (map (targets_of arcs) (range_with_len v n)) ≡ flat_map (degree_line arcs) (range_with_len v n)
+lines_of_rows-range arcs v zero = refl
+lines_of_rows-range arcs v (suc n) =
+    ap₂ ◌++◌ (ap (line_of_degree v) (length-targets_of arcs v)) (lines_of_rows-range arcs (v + 1) n)
+
+-- the lines of all rows are those of all degrees
+pub lines_of_rows-rows_of : (n : ℕ) (arcs : List (ℕ × ℕ)) → lines_of_rows 0 (rows_of n arcs) ≡ degree_lines n arcs
+lines_of_rows-rows_of n arcs = lines_of_rows-range arcs 0 n
