@@ -25,5 +25,4 @@ pub fn worked_rows()
     ensures great { kept_arcs (type_r Orientation.Natural true (key_w (codes "w") Rule.Sum ∷ []))
         (one_arc 0 (pos 9223372036854775807) ∷ one_arc 1 (pos 1) ∷ one_arc 2 (negsuc 0) ∷ [])
         ≡ Ok (kept 0 1 0 (pos 9223372036854775807 ∷ []) ∷ []) }
-{
-}
+{}
