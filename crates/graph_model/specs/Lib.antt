@@ -4,5 +4,7 @@ pub mod Change
 pub mod Graph
 pub mod Lists
 pub mod Names
+pub mod Projection
 pub mod Refusals
 pub mod SmallStore
+pub mod View
