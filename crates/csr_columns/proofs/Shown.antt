@@ -8,7 +8,8 @@ use Rattle.std.proofs.lemmas.List.Concat.{length-flat_map}
 use Rattle.std.proofs.lemmas.List.FromFn.{length-map-range_with_len}
 use Rattle.std.proofs.lemmas.Slice.Zip.{length-zip, get_or-zip, firsts-zip}
 use Rattle.std.proofs.lemmas.Bool.{cond-true, cond-false, false_from_ne_true}
-use Rattle.csr_columns.specs.Rows.{ArcRows, row_at, column_at, under}
+use Rattle.graph_model.specs.Projection.{under}
+use Rattle.csr_columns.specs.Rows.{ArcRows, row_at, column_at}
 use Rattle.csr_columns.specs.Offsets.{cut_row, cut_rows, shown, IsUnnamed, IsFirstNamed, CutsRows, AreRows}
 use Rattle.csr_columns.proofs.OffsetRows.{length-cut_rows, row_at-cut_rows, listed-cut_rows, offsets_of_row}
 

@@ -2,3 +2,4 @@
 pub mod Rows
 pub mod Offsets
 pub mod Laws
+pub mod Order

@@ -8,16 +8,14 @@
 --   arc_rows_of nodes arcs props   the rows of arcs, and of the values under each key
 --   row_at rows v                  the row of a node
 --   column_at columns place        the column at a place
---   under name entries             what stands under a name
 --   row_in column v                the row of a node in a column, where there is one
 --   arcs_of rows                   the arcs of rows
 --   listed rows                    the items of rows, one row after another
 --   turned_rows rows               every arc turned, and the values with it
-use Rattle.std.specs.Prelude.{ℕ, ℤ, ◌<◌, ◌≢◌, Bool, if◌then◌else◌, Option, Some, None, List, [], ◌∷◌, length, map, filter, slice_index_or, AllPairs}
+use Rattle.std.specs.Prelude.{ℕ, ℤ, ◌<◌, ◌≢◌, Bool, Option, Some, None, List, [], ◌∷◌, length, map, filter, slice_index_or, AllPairs}
 use Rattle.std.specs.declared.cmp.Ordering.{Ordering}
 use Rattle.std.specs.Ordering.{nat_cmp, ordering_then}
 use Rattle.std.specs.List.{range_with_len, flat_map, zip}
-use Rattle.std.specs.Str.{bytes_eq}
 use Rattle.graph_model.specs.Arcs.{leaves, targets_of}
 
 -- per node the targets of its arcs, and per key the values beside them
@@ -64,11 +62,6 @@ row_at rows v = slice_index_or rows v []
 -- the column at a place
 abbrev pub column_at : {A : Type 0} → List (List ℕ × List A) → ℕ → List A
 column_at columns place = (slice_index_or columns place ([], [])).1
-
--- what stands under a name: the first of that name
-abbrev pub under : {A : Type 0} → List ℕ → List (List ℕ × A) → Option A
-under name [] = None
-under name (entry ∷ entries) = if bytes_eq entry.0 name then Some entry.1 else under name entries
 
 -- the row of a node in a column, where there is one
 abbrev pub row_in : {A : Type 0} → Option (List (List A)) → ℕ → Option (List A)

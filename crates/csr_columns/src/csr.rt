@@ -1,8 +1,12 @@
 // Arcs by source, in columns.
-ghost use Rattle.std.specs.Prelude.{◌≡◌, ◌<◌, [], length, map, sum_by, All, MatchOption, IfOk, None, Some, option_copied};
+ghost use Rattle.std.specs.Prelude.{◌≡◌, ◌^◌, ◌<◌, [], length, map, sum_by, All, MatchOption, IfOk, None, Some, option_copied};
+ghost use Rattle.std.specs.List.{zip};
 ghost use Rattle.std.specs.List.Sorted.{IsSorted};
-ghost use Rattle.csr_columns.specs.Rows.{LiesBelow, AreDistinct, arc_cmp, arc_rows_of, row_at, column_at, under, row_in, turned_rows};
+ghost use Rattle.csr_columns.specs.Rows.{LiesBelow, AreDistinct, arc_cmp, arc_rows_of, row_at, column_at, row_in, arcs_of, listed_column, turned_rows};
+ghost use Rattle.csr_columns.specs.Order.{ordered, ordered_column, itself};
+ghost use Rattle.graph_model.specs.Projection.{under};
 
+use crate::ordering::{self, Order};
 use crate::turning::{self, Turning};
 use crate::{columns, counting};
 use graph_model::{List, Mem, Name, TryClone};
@@ -78,6 +82,28 @@ impl Csr {
             targets,
             keys: List::new(alloc),
             columns: Vec::new(alloc),
+        })
+    }
+
+    /// The rows of arcs that stand in any order, each in ascending order of target, with the columns in the arcs' order.
+    /// Equal arcs keep their order.
+    pub(crate) fn ordered(alloc: Global, nodes: u32, ends: &[(u32, u32)], keys: List<Name>, columns: &[List<i64>]) -> Result<Csr, Mem>
+        requires few { length ends.now < 2 ^ 32 }
+        requires below { All (LiesBelow nodes) ends.now }
+        requires beside { All (λ column. length column ≡ length ends.now) columns.now }
+        requires named { length keys ≡ length columns.now }
+        requires distinct { AreDistinct keys }
+        ensures nodes { IfOk result (λ csr. length csr.rows ≡ nodes) }
+        ensures arcs { IfOk result (λ csr. arcs_of csr.rows ≡ ordered itself nodes ends.now) }
+        ensures columns { IfOk result (λ csr. map listed_column csr.columns ≡ map (ordered_column nodes ends.now) (zip keys columns.now)) }
+    {
+        let Order { offsets, places } = ordering::put_in_order(alloc, nodes, ends)?;
+        let targets = counting::targets(alloc, ends)?;
+        Ok(Csr {
+            offsets,
+            targets: columns::pick(alloc, &targets, &places)?,
+            keys,
+            columns: columns::pick_each(alloc, columns, &places)?,
         })
     }
 

@@ -5,6 +5,7 @@ mod columns;
 mod counting;
 mod csr;
 pub mod laws;
+mod ordering;
 mod turning;
 
 pub use csr::Csr;

@@ -5,5 +5,7 @@ pub mod ChangeLaws
 pub mod Graph
 pub mod Lists
 pub mod Names
+pub mod Projection
 pub mod Refusals
 pub mod SmallStore
+pub mod View

@@ -1,5 +1,6 @@
 use Rattle.std.proofs.Common.{◌≡◌, ℕ, ◌<◌, List, Some, None, MatchOption, length, subst}
-use Rattle.csr_columns.specs.Rows.{ArcRows, column_at, under}
+use Rattle.graph_model.specs.Projection.{under}
+use Rattle.csr_columns.specs.Rows.{ArcRows, column_at}
 use Rattle.csr_columns.proofs.Shown.{place-shown}
 use Rattle.csr_columns.proofs.csr.Csr.place_of.Goals as goal
 

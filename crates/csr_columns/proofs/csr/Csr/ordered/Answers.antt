@@ -1,0 +1,24 @@
+use Rattle.std.proofs.Common.{◌≡◌, length, ap, ◌∙◌, arith}
+use Rattle.csr_columns.proofs.OffsetRows.{length-cut_rows}
+use Rattle.csr_columns.proofs.Grouping.{AreRows-ordered, arcs_of-ordered, columns-ordered}
+use Rattle.csr_columns.proofs.csr.Csr.ordered.Goals as goal
+
+pub invariant_of-result : goal.invariant_of-result
+invariant_of-result c =
+    rw (c.in_ok-pick.ensures 0, c.deref.ensures.value, c.deref-2.ensures.value, c.in_ok-targets.ensures, c.in_ok-pick_each.ensures, c.deref-3.ensures.value, c.keys.view_is)
+    (AreRows-ordered c.args.nodes c.args.ends.now _ _ c.in_ok-offsets.ensures c.args.keys c.args.columns.now (omega arith) c.requires.few c.requires.below c.requires.beside c.requires.named c.requires.distinct)
+
+pub returns-clause-nodes : goal.returns-clause-nodes
+returns-clause-nodes c =
+    let long = c.in_ok-offsets.ensures.long in
+    omega (arith, long, length-cut_rows c.in_ok-offsets.field-0.offsets.items c.in_ok-pick.field-0.items)
+
+pub returns-clause-arcs : goal.returns-clause-arcs
+returns-clause-arcs c =
+    rw (c.in_ok-pick.ensures 0, c.deref.ensures.value, c.deref-2.ensures.value, c.in_ok-targets.ensures)
+    (arcs_of-ordered c.args.nodes c.args.ends.now _ _ c.in_ok-offsets.ensures)
+
+pub returns-clause-columns : goal.returns-clause-columns
+returns-clause-columns c =
+    rw (c.in_ok-pick_each.ensures, c.deref-3.ensures.value, c.keys.view_is)
+    (columns-ordered c.args.nodes c.args.ends.now _ _ c.in_ok-offsets.ensures c.args.keys c.args.columns.now c.requires.beside)
