@@ -87,7 +87,13 @@ impl Csr {
 
     /// The rows of arcs that stand in any order, each in ascending order of target, with the columns in the arcs' order.
     /// Equal arcs keep their order.
-    pub(crate) fn ordered(alloc: Global, nodes: u32, ends: &[(u32, u32)], keys: List<Name>, columns: &[List<i64>]) -> Result<Csr, Mem>
+    pub(crate) fn ordered(
+        alloc: Global,
+        nodes: u32,
+        ends: &[(u32, u32)],
+        keys: List<Name>,
+        columns: &[List<i64>],
+    ) -> Result<Csr, Mem>
         requires few { length ends.now < 2 ^ 32 }
         requires below { All (LiesBelow nodes) ends.now }
         requires beside { All (λ column. length column ≡ length ends.now) columns.now }

@@ -126,10 +126,10 @@ first_directed (type ∷ types) = if is_undirected type.orientation then first_d
 -- the nodes with a chosen label, and the arcs of the chosen types between them
 abbrev pub plain_view : PlainProjection → Choice → Choice → Option (List ℕ) → PlainView
 plain_view p labels types weight = record {
-    ids = chosen_ids p labels;
-    weighted = is_some weight;
-    arcs = arcs_within (flat_map (weighed_arcs weight) (chosen_types p types)) (chosen_ids p labels);
-    directed = first_directed (chosen_types p types)
+  ids = chosen_ids p labels;
+  weighted = is_some weight;
+  arcs = arcs_within (flat_map (weighed_arcs weight) (chosen_types p types)) (chosen_ids p labels);
+  directed = first_directed (chosen_types p types);
 }
 
 -- a view where it isn't refused
