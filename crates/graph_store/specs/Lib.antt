@@ -1,0 +1,3 @@
+-- How a store keeps its graph, and what it tells of it.
+pub mod Slots
+pub mod Stored

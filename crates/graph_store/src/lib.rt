@@ -1,0 +1,10 @@
+//! The store.
+#![tactic(auto)]
+
+mod element;
+mod slot;
+mod slots;
+mod store;
+mod table;
+
+pub use store::Store;
