@@ -1,8 +1,9 @@
 -- Slots, the elements in them, and what an edit of a slot changes.
-use Rattle.std.proofs.Common.{◌≡◌, ◌≢◌, ℕ, ◌+◌, ◌-◌, ◌<◌, ◌≤◌, Bool, true, false, cond, eqb, List, [], ◌∷◌, ◌++◌, length, map, set, get_or, Option, Some, None, IfSome, is_some, unwrap_or, refl, sym, ◌∙◌, ap, subst, suc, zero, zero-add, arith}
+use Rattle.std.proofs.Common.{◌≡◌, ◌≢◌, ℕ, ◌+◌, ◌-◌, ◌<◌, ◌≤◌, Bool, true, false, cond, eqb, List, [], ◌∷◌, ◌++◌, length, map, set, drop, get_or, Option, Some, None, IfSome, is_some, unwrap_or, refl, sym, ◌∙◌, ap, subst, suc, zero, zero-add, arith}
 use Rattle.std.specs.List.{cons_option, filter, find, list_any, slice_get, sum_by}
 use Rattle.std.specs.Option.{option_map}
 use Rattle.std.proofs.lemmas.Grind.{common_steps}
+use Rattle.std.proofs.lemmas.List.{drop_more}
 use Rattle.std.proofs.lemmas.List.Sums.{sum_by-cons}
 use Rattle.std.proofs.lemmas.Option.{unwrap_or-slice_get}
 use Rattle.std.proofs.lemmas.Bool.{eq-eqb, ne_eqb}
@@ -30,6 +31,10 @@ living-kept p (None ∷ slots) = living-kept p slots
 living-kept p (Some x ∷ slots) =
     elim (p x) as (λ b. living (cond b (Some x) None ∷ map (kept p) slots) ≡ cond b (x ∷ filter p (living slots)) (filter p (living slots)))
     [ true ↦ ap (λ rest. x ∷ rest) (living-kept p slots) | false ↦ living-kept p slots ]
+
+-- the first slot of those that are left
+pub living_drop_more : {A : Type 0} (slots : List (Option A)) (row : ℕ) → row < length slots → living (drop row slots) ≡ cons_option (slot_at slots row) (living (drop (row + 1) slots))
+living_drop_more slots row within = ap living (drop_more slots row None within)
 
 -- ---- an element is found under its id
 

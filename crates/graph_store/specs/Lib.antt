@@ -1,3 +1,5 @@
 -- How a store keeps its graph, and what it tells of it.
 pub mod Slots
 pub mod Stored
+pub mod Told
+pub mod Prepared

@@ -7,4 +7,4 @@ mod slots;
 mod store;
 mod table;
 
-pub use store::Store;
+pub use store::{Prepared, Snapshot, Store};
