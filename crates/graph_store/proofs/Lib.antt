@@ -1,2 +1,4 @@
 pub mod SlotLemmas
 pub mod Placing
+pub mod SettingLemmas
+pub mod EditLemmas

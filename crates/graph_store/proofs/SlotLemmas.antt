@@ -4,7 +4,7 @@ use Rattle.std.specs.List.{cons_option, filter, find, list_any, slice_get, sum_b
 use Rattle.std.specs.Option.{option_map}
 use Rattle.std.proofs.lemmas.Grind.{common_steps}
 use Rattle.std.proofs.lemmas.List.{drop_more}
-use Rattle.std.proofs.lemmas.List.Sums.{sum_by-cons}
+use Rattle.std.proofs.lemmas.List.Sums.{sum_by-cons, sum_by-set}
 use Rattle.std.proofs.lemmas.Option.{unwrap_or-slice_get}
 use Rattle.std.proofs.lemmas.Bool.{eq-eqb, ne_eqb}
 use Rattle.graph_store.specs.Slots.{slot_at, living, IsNumbered, kept, slot_count}
@@ -114,6 +114,23 @@ sum_by-living count [] = refl
 sum_by-living count (None ∷ slots) = rw sum_by-cons (rw zero-add (sum_by-living count slots))
 sum_by-living count (Some x ∷ slots) =
     sum_by-cons count x (living slots) ∙ ap (λ n. count x + n) (sum_by-living count slots) ∙ sym (sum_by-cons (slot_count count) (Some x) slots)
+
+-- an element stands under an id that was given
+pub slot_at-within : {A : Type 0} (slots : List (Option A)) (id : ℕ) (x : A) → slot_at slots id ≡ Some x → id < length slots
+slot_at-within [] id x is = cc
+slot_at-within (slot ∷ slots) zero x is = omega arith
+slot_at-within (slot ∷ slots) (suc id) x is = omega (arith, slot_at-within slots id x is)
+
+-- an element takes another's slot
+pub sum_by-set_slot : {A : Type 0} (count : A → ℕ) (slots : List (Option A)) (id : ℕ) (x y : A) → slot_at slots id ≡ Some x → sum_by (slot_count count) (set slots id (Some y)) + count x ≡ sum_by (slot_count count) slots + count y
+sum_by-set_slot count slots id x y is =
+    let whole = sum_by-set (slot_count count) slots id (Some y) None (slot_at-within slots id x is) in rw is at whole
+
+-- an element goes
+pub sum_by-set_none : {A : Type 0} (count : A → ℕ) (slots : List (Option A)) (id : ℕ) (x : A) → slot_at slots id ≡ Some x → sum_by (slot_count count) (set slots id None) + count x ≡ sum_by (slot_count count) slots
+sum_by-set_none count slots id x is =
+    let whole = sum_by-set (slot_count count) slots id None None (slot_at-within slots id x is) in
+    let gone = rw is at whole in omega (arith, gone)
 
 -- ---- one slot after another is edited
 

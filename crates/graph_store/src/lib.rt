@@ -2,9 +2,11 @@
 #![tactic(auto)]
 
 mod element;
+mod setting;
 mod slot;
 mod slots;
 mod store;
 mod table;
+mod values;
 
 pub use store::{Prepared, Snapshot, Store};
