@@ -8,7 +8,7 @@ use Rattle.std.proofs.lemmas.Bool.{cases_Bool, cases_eq, eq-eqb, ne_eqb}
 use Rattle.graph_model.specs.declared.graph.Prop.{Prop}
 use Rattle.graph_model.specs.Change.{last_value, pair_id, is_listed, set_if_there}
 use Rattle.graph_store.specs.Slots.{slot_at, IsNumbered, kept, slot_count}
-use Rattle.graph_store.specs.Edits.{edit_slot, gone, set_by, with_value}
+use Rattle.graph_store.specs.Edits.{edit_slot, gone, is_unlisted, set_by, with_value}
 use Rattle.graph_store.proofs.SlotLemmas.{id-at, set-map}
 use Rattle.graph_store.proofs.SettingLemmas.{is_at-nat, last_value-unlisted}
 
@@ -105,7 +105,7 @@ edit-all id_of change (Some x ∷ slots) ids same =
     ]
 
 -- the elements that aren't listed stay
-pub edit-gone : {A : Type 0} (id_of : A → ℕ) (slots : List (Option A)) (ids : List ℕ) → map (edit_slot id_of gone ids) slots ≡ map (kept (λ x. not (is_listed ids (id_of x)))) slots
+pub edit-gone : {A : Type 0} (id_of : A → ℕ) (slots : List (Option A)) (ids : List ℕ) → map (edit_slot id_of gone ids) slots ≡ map (kept (is_unlisted id_of ids)) slots
 edit-gone id_of [] ids = refl
 edit-gone id_of (None ∷ slots) ids = ap (λ rest. None ∷ rest) (edit-gone id_of slots ids)
 edit-gone id_of (Some x ∷ slots) ids =
@@ -197,3 +197,13 @@ pub IsSetSoFar-all : {A : Type 0} (id_of : A → ℕ) (props_of : A → List Pro
 IsSetSoFar-all id_of props_of with_props key pairs last before now added own so_far =
     so_far.edited ∙ edit-all id_of (set_by id_of props_of with_props key pairs) before (map pair_id pairs) (λ x unlisted.
         set_by-unlisted id_of props_of with_props key pairs x (own x) (last_value-unlisted pairs (id_of x) unlisted))
+
+-- nothing is left of what goes
+option_and_then-gone : {A : Type 0} (slot : Option A) → option_and_then gone slot ≡ None
+option_and_then-gone None = refl
+option_and_then-gone (Some x) = refl
+
+-- the element of one more id goes
+pub edit-gone_more : {A : Type 0} (id_of : A → ℕ) (slots : List (Option A)) (ids : List ℕ) (id : ℕ) → IsNumbered id_of 0 slots → set (map (edit_slot id_of gone ids) slots) id None ≡ map (edit_slot id_of gone (ids ++ id ∷ [])) slots
+edit-gone_more id_of slots ids id numbered =
+    ap (set (map (edit_slot id_of gone ids) slots) id) (sym (option_and_then-gone (slot_at slots id))) ∙ edit-more id_of gone slots ids id numbered

@@ -2,3 +2,4 @@ pub mod SlotLemmas
 pub mod Placing
 pub mod SettingLemmas
 pub mod EditLemmas
+pub mod OrderLemmas

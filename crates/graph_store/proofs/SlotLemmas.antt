@@ -1,9 +1,9 @@
 -- Slots, the elements in them, and what an edit of a slot changes.
-use Rattle.std.proofs.Common.{◌≡◌, ◌≢◌, ℕ, ◌+◌, ◌-◌, ◌<◌, ◌≤◌, Bool, true, false, cond, eqb, List, [], ◌∷◌, ◌++◌, length, map, set, drop, get_or, Option, Some, None, IfSome, is_some, unwrap_or, refl, sym, ◌∙◌, ap, subst, suc, zero, zero-add, arith}
+use Rattle.std.proofs.Common.{◌≡◌, ◌≢◌, ℕ, ◌+◌, ◌-◌, ◌<◌, ◌≤◌, Bool, true, false, cond, eqb, List, [], ◌∷◌, ◌++◌, length, map, set, take, drop, get_or, Option, Some, None, IfSome, is_some, unwrap_or, refl, sym, ◌∙◌, ap, subst, suc, zero, zero-add, arith}
 use Rattle.std.specs.List.{cons_option, filter, find, list_any, slice_get, sum_by}
 use Rattle.std.specs.Option.{option_map}
 use Rattle.std.proofs.lemmas.Grind.{common_steps}
-use Rattle.std.proofs.lemmas.List.{drop_more}
+use Rattle.std.proofs.lemmas.List.{append_assoc, drop_more, get_or_at, length-map, length-take-le, map_more, set_at}
 use Rattle.std.proofs.lemmas.List.Sums.{sum_by-cons, sum_by-set}
 use Rattle.std.proofs.lemmas.Option.{unwrap_or-slice_get}
 use Rattle.std.proofs.lemmas.Bool.{eq-eqb, ne_eqb}
@@ -155,3 +155,19 @@ set-map id_of f g (None ∷ slots) first (suc place) id slot numbered is none ot
 set-map id_of f g (Some x ∷ slots) first (suc place) id slot numbered is none others this =
     let rest = set-map id_of f g slots (first + 1) place id slot numbered.1 (omega arith) none others (λ within. this (omega arith)) in
     let here = others x (λ same. omega (arith, numbered.0)) in cc
+
+-- the next slot is edited, where those before it were
+pub set-front : {A : Type 0} (f : A → A) (xs : List A) (row : ℕ) (default : A) → row < length xs → set (map f (take row xs) ++ drop row xs) row (f (get_or xs row default)) ≡ map f (take (row + 1) xs) ++ drop (row + 1) xs
+set-front f xs row default within =
+    let front = map f (take row xs) in
+    let item = get_or xs row default in
+    let long : length front ≡ row = length-map (take row xs) f ∙ length-take-le row xs (omega arith) in
+    rw (drop_more xs row default within, map_more f xs row default within)
+    (set_at front item (drop (row + 1) xs) (f item) row long ∙ sym (append_assoc front (f item ∷ []) (drop (row + 1) xs)))
+
+-- the next slot is as it was, where those before it were edited
+pub get_or-front : {A : Type 0} (f : A → A) (xs : List A) (row : ℕ) (default : A) → row < length xs → get_or (map f (take row xs) ++ drop row xs) row default ≡ get_or xs row default
+get_or-front f xs row default within =
+    let front = map f (take row xs) in
+    let long : length front ≡ row = length-map (take row xs) f ∙ length-take-le row xs (omega arith) in
+    rw (drop_more xs row default within) (get_or_at front (get_or xs row default) (drop (row + 1) xs) default row long)

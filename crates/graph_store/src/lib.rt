@@ -1,7 +1,9 @@
 //! The store.
 #![tactic(auto)]
 
+mod deleting;
 mod element;
+mod ordering;
 mod setting;
 mod slot;
 mod slots;
