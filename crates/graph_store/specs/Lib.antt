@@ -1,5 +1,6 @@
 -- How a store keeps its graph, and what it tells of it.
 pub mod Slots
+pub mod Created
 pub mod Edits
 pub mod Stored
 pub mod Told
