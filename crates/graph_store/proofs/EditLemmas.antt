@@ -9,22 +9,11 @@ use Rattle.graph_model.specs.declared.graph.Prop.{Prop}
 use Rattle.graph_model.specs.Change.{last_value, pair_id, is_listed, set_if_there}
 use Rattle.graph_store.specs.Slots.{slot_at, IsNumbered, kept, slot_count}
 use Rattle.graph_store.specs.Edits.{edit_slot, gone, is_unlisted, set_by, with_value}
+use Rattle.graph_store.proofs.BoolFacts.{or-false, or-true, or-assoc}
 use Rattle.graph_store.proofs.SlotLemmas.{id-at, set-map}
 use Rattle.graph_store.proofs.SettingLemmas.{is_at-nat, last_value-unlisted}
 
 -- ---- one more id is listed
-
-or-false : (b : Bool) → (b || false) ≡ b
-or-false true = refl
-or-false false = refl
-
-or-true : (b : Bool) → (b || true) ≡ true
-or-true true = refl
-or-true false = refl
-
-or-assoc : (a b c : Bool) → (a || (b || c)) ≡ ((a || b) || c)
-or-assoc true b c = refl
-or-assoc false b c = refl
 
 -- an id is listed where it was, or where it is the new one
 pub is_listed-push : (ids : List ℕ) (id other : ℕ) → is_listed (ids ++ id ∷ []) other ≡ (is_listed ids other || eqb id other)

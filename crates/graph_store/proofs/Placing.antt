@@ -4,6 +4,7 @@ use Rattle.std.specs.List.{AllByRecursion}
 use Rattle.std.proofs.lemmas.List.{append-nil, length_push, length-append, length-replicate}
 use Rattle.graph_model.specs.Lists.{Pairwise}
 use Rattle.graph_store.specs.Slots.{living, IsNumbered}
+use Rattle.graph_store.proofs.ListFacts.{AllByRecursion-weaker}
 use Rattle.graph_store.proofs.SlotLemmas.{living-++, IsNumbered-++}
 
 -- all but the rest of the elements stand under their ids, of which those of the rest lie above
@@ -31,11 +32,6 @@ living-filled slots n = living-++ slots (replicate n None) ∙ ap (λ rest. livi
 pub IsNumbered-filled : {A : Type 0} (id_of : A → ℕ) (slots : List (Option A)) (n : ℕ) → IsNumbered id_of 0 slots → IsNumbered id_of 0 (slots ++ replicate n None)
 IsNumbered-filled id_of slots n numbered =
     IsNumbered-++ id_of slots (replicate n None) 0 (length slots) numbered (omega arith) (IsNumbered-replicate id_of n (length slots))
-
--- what follows from a fact holds of each item where the fact does
-pub AllByRecursion-weaker : {A : Type 0} (P Q : A → Type 0) (xs : List A) → ((x : A) → P x → Q x) → AllByRecursion P xs → AllByRecursion Q xs
-AllByRecursion-weaker P Q [] weaker all = tt
-AllByRecursion-weaker P Q (x ∷ xs) weaker all = (weaker x all.0, AllByRecursion-weaker P Q xs weaker all.1)
 
 -- a number of slots up to an id
 pub length-filled : {A : Type 0} (slots : List (Option A)) (id : ℕ) → length slots ≤ id → length (slots ++ replicate (id - length slots) None) ≡ id
