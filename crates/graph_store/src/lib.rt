@@ -1,6 +1,7 @@
 //! The store.
 #![tactic(auto)]
 
+mod checks;
 mod creating;
 mod deleting;
 mod element;
