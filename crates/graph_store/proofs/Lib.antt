@@ -7,3 +7,4 @@ pub mod EditLemmas
 pub mod OrderLemmas
 pub mod ValidValues
 pub mod ValidLaws
+pub mod ChangeLemmas

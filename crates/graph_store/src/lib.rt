@@ -1,6 +1,7 @@
 //! The store.
 #![tactic(auto)]
 
+mod changes;
 mod checks;
 mod creating;
 mod deleting;

@@ -1,18 +1,22 @@
 // Values set by pairs of an id and a value.
-ghost use Rattle.std.specs.Prelude.{◌≡◌, ℕ, ◌+◌, ◌≤◌, length, map, slice_set, sum_by, Some, IfOk};
+ghost use Rattle.std.specs.Prelude.{◌≡◌, ℕ, ◌+◌, ◌≤◌, length, map, slice_set, sum_by, Some, None, IfOk, IfErr};
+ghost use Rattle.std.specs.List.{find};
 ghost use Rattle.std.specs.Option.{option_map};
 ghost use Rattle.std.specs.Ordering.{nat_cmp};
 ghost use Rattle.std.specs.BTreeMap.{get};
-ghost use Rattle.graph_model.specs.Change.{last_value};
+ghost use Rattle.graph_model.specs.Change.{last_value, pair_id};
+ghost use Rattle.graph_model.specs.Refusals.{UnlessMem};
+ghost use Rattle.graph_store.specs.Missing.{is_dead};
 ghost use Rattle.graph_store.specs.Slots.{IsNumbered, slot_at, slot_count};
 ghost use Rattle.graph_store.specs.Edits.{set_by, with_value};
 
+use crate::checks::missing_of_pairs;
 use crate::element::Element;
 use crate::slot::Slot;
 use crate::slots::draft_at;
-use crate::table::Draft;
+use crate::table::{Draft, Table};
 use crate::values::set_prop;
-use graph_model::{Mem, Name};
+use graph_model::{EntityKind, List, Mem, Name, Refusal};
 use std::alloc::Global;
 use std::collections::BTreeMap;
 
@@ -53,7 +57,7 @@ fn set_value<E: Element>(
 
 /// Sets a value of what lives under the id of each pair, and answers by how many values there are more. Of equal ids
 /// the last pair counts.
-pub(crate) fn set_values<E: Element>(
+fn set_values<E: Element>(
     slots: &mut Draft<Slot<E>>,
     alloc: Global,
     key: &Name,
@@ -73,4 +77,32 @@ pub(crate) fn set_values<E: Element>(
         }
     }
     Ok(added)
+}
+
+/// The slots with a value set of what lives under the id of each pair, and how many values there are more.
+///
+/// # Errors
+/// `NoSuchEntity` with the first id under which nothing lives, or `Mem`.
+pub(crate) fn with_values<E: Element>(
+    slots: &Table<Slot<E>>,
+    alloc: Global,
+    kind: EntityKind,
+    key: &Name,
+    pairs: &List<(u32, i64)>,
+) -> Result<(Table<Slot<E>>, u64), Refusal>
+    requires { IsNumbered E.id_of 0 slots.now }
+    ensures set { IfOk result (λ made. made.0
+        ≡ map (option_map (set_by E.id_of E.props_of E.with_props_of key.now pairs.now)) slots.now) }
+    ensures added { IfOk result (λ made. sum_by (slot_count (λ element. length (E.props_of element))) made.0
+        ≡ sum_by (slot_count (λ element. length (E.props_of element))) slots.now + made.1) }
+    ensures found { IfOk result (λ _. find (is_dead slots.now) (map pair_id pairs.now) ≡ None) }
+    ensures refused { IfErr result (λ why. UnlessMem why
+        (option_map (Refusal.NoSuchEntity kind) (find (is_dead slots.now) (map pair_id pairs.now)) ≡ Some why)) }
+{
+    if let Some(id) = missing_of_pairs(slots, pairs.as_slice()) {
+        return Err(Refusal::NoSuchEntity { kind, id });
+    }
+    let mut draft = slots.edit(alloc)?;
+    let added = set_values(&mut draft, alloc, key, pairs.as_slice())?;
+    Ok((draft.finish(alloc)?, added))
 }

@@ -16,9 +16,9 @@ use std::snapshot::Snapshot as Before;
 /// A property graph that is valid and within the limits. Contracts see the graph.
 #[derive(Drop)]
 pub struct Store {
-    nodes: Table<Slot<Node>>,
-    rels: Table<Slot<Rel>>,
-    values: u64,
+    pub(crate) nodes: Table<Slot<Node>>,
+    pub(crate) rels: Table<Slot<Rel>>,
+    pub(crate) values: u64,
 }
 
 impl Model for Store {
