@@ -1,13 +1,16 @@
 -- What becomes of the slots is what becomes of the graph.
-use Rattle.std.proofs.Common.{◌≡◌, ℕ, ℤ, ◌+◌, ◌-◌, ◌≤◌, Bool, cond, eqb, not, List, [], ◌∷◌, ◌++◌, length, map, sum_by, Option, Some, None, is_some, refl, suc, zero, true, false, inl, inr, sym, ◌∙◌, ap, subst, arith}
+use Rattle.std.proofs.Common.{◌≡◌, ℕ, ℤ, ◌+◌, ◌-◌, ◌<◌, ◌≤◌, Bool, cond, eqb, not, List, [], ◌∷◌, ◌++◌, length, map, sum_by, Option, Some, None, is_some, refl, suc, zero, true, false, inl, inr, sym, ◌∙◌, ap, subst, arith}
 use Rattle.std.proofs.lemmas.Bool.{cases_Bool, le-ltb}
 use Rattle.std.specs.Option.{option_map}
 use Rattle.std.specs.Prelude.{IsTrue}
-use Rattle.std.specs.List.{AllByRecursion, find, filter, list_any}
-use Rattle.std.proofs.lemmas.List.{length-map}
+use Rattle.std.specs.List.{AllByRecursion, find, filter, flat_map, list_any}
+use Rattle.std.proofs.lemmas.List.{length-append, length-map}
+use Rattle.std.proofs.lemmas.List.Sums.{sum_by-cons, sum_by-append}
 use Rattle.graph_model.specs.declared.graph.Node.{Node}
 use Rattle.graph_model.specs.declared.graph.Rel.{Rel}
 use Rattle.graph_model.specs.declared.graph.PropertyGraph.{PropertyGraph}
+use Rattle.graph_model.specs.declared.change.NewNode.{NewNode}
+use Rattle.graph_model.specs.declared.change.NewRel.{NewRel}
 use Rattle.graph_model.specs.declared.change.Change.{Change}
 use Rattle.graph_model.specs.declared.change.Change.TheVariants.{Create, SetNodes, SetRels, DeleteNodes, DeleteRels}
 use Rattle.graph_model.specs.declared.refusal.Refusal.{Refusal}
@@ -16,14 +19,15 @@ use Rattle.graph_model.specs.Refusals.{UnlessMem}
 use Rattle.graph_model.specs.declared.refusal.EntityKind.TheVariants as kind
 use Rattle.graph_model.specs.declared.refusal.Quantity.{Quantity}
 use Rattle.graph_model.specs.declared.refusal.Quantity.TheVariants as quantity
-use Rattle.graph_model.specs.Lists.{first_there}
+use Rattle.graph_model.specs.Lists.{first_there, insert_in_order, in_order}
 use Rattle.graph_model.specs.Graph.{most_nodes, most_rels, most_values, value_count, node_value_count, rel_value_count, node_lives, rel_lives, is_node, is_rel, EndsLive, IsValidGraph, IsWithinLimits}
-use Rattle.graph_model.specs.Change.{is_listed, pair_id, node_after, rel_after, keeps_node, keeps_ends, keeps_rel, after_change, named_nodes, named_rels, node_missing, rel_missing, missing_entity, over_limit, over_limits, refused_change, IsWellFormedChange}
+use Rattle.graph_model.specs.Change.{created_nodes, created_rels, named_ends, key_before, is_listed, pair_id, node_after, rel_after, keeps_node, keeps_ends, keeps_rel, after_change, named_nodes, named_rels, node_missing, rel_missing, missing_entity, over_limit, over_limits, refused_change, IsWellFormedChange}
 use Rattle.graph_store.specs.Slots.{slot_at, living, IsNumbered, kept, slot_count}
 use Rattle.graph_store.specs.Stored.{node_id, rel_id, graph_of, IsSound}
-use Rattle.graph_store.specs.Missing.{is_dead, IsMadeBy}
+use Rattle.graph_store.specs.Missing.{is_dead, IsMadeBy, new_node_values, new_rel_values, over_limits_with}
+use Rattle.graph_store.specs.Created.{created_node, created_rel}
 use Rattle.graph_store.specs.Edits.{is_unlisted, ends_live}
-use Rattle.graph_store.proofs.SlotLemmas.{id-at, IsNumbered-map, IsNumbered-kept, IsNumbered-++, living-map, living-kept, living-++, find-living, list_any-find, sum_by-living}
+use Rattle.graph_store.proofs.SlotLemmas.{id-at, IsNumbered-map, IsNumbered-kept, IsNumbered-++, living-map, living-kept, living-++, find-living, living-map_Some, list_any-find, sum_by-living}
 use Rattle.graph_store.proofs.ValidLaws.{after_valid, after_within}
 
 -- ---- which ids are missing
@@ -292,3 +296,92 @@ nodes_gone_made nodes rels values g ids nodes_left rels_left node_values rel_val
       (rw made.nodes_gone (IsNumbered-kept node_id (is_unlisted node_id ids) nodes 0 made.sound.node_slots))
       (rw made.rels_gone (IsNumbered-kept rel_id (ends_live nodes_left) rels 0 made.sound.rel_slots)) counted,
     (rw (← made.is) graph, subst (λ (x : PropertyGraph). refused_change x (DeleteNodes ids) ≡ None) made.is allowed))
+
+-- ---- elements are made
+
+-- as many items are in order
+length-insert_in_order : {A : Type 0} (before : A → A → Bool) (x : A) (xs : List A) → length (insert_in_order before x xs) ≡ length xs + 1
+length-insert_in_order before x [] = refl
+length-insert_in_order before x (y ∷ ys) =
+    elim (before y x) as (λ b. length (cond b (y ∷ insert_in_order before x ys) (x ∷ y ∷ ys)) ≡ suc (length ys) + 1)
+    [ true ↦ omega (arith, length-insert_in_order before x ys) | false ↦ omega arith ]
+
+length-in_order : {A : Type 0} (before : A → A → Bool) (xs : List A) → length (in_order before xs) ≡ length xs
+length-in_order before [] = refl
+length-in_order before (x ∷ xs) = omega (arith, length-insert_in_order before x (in_order before xs), length-in_order before xs)
+
+-- new elements: how many they are, how many values they have, and that they stand under their ids
+length-created_nodes : (news : List NewNode) (first : ℕ) → length (created_nodes first news) ≡ length news
+length-created_nodes [] first = refl
+length-created_nodes (new ∷ news) first = omega (arith, length-created_nodes news (first + 1))
+
+length-created_rels : (news : List NewRel) (nodes first : ℕ) → length (created_rels nodes first news) ≡ length news
+length-created_rels [] nodes first = refl
+length-created_rels (new ∷ news) nodes first = omega (arith, length-created_rels news nodes (first + 1))
+
+values-created_nodes : (news : List NewNode) (first : ℕ) → sum_by node_value_count (created_nodes first news) ≡ sum_by new_node_values news
+values-created_nodes [] first = refl
+values-created_nodes (new ∷ news) first =
+    sum_by-cons node_value_count (created_node first new) (created_nodes (first + 1) news)
+    ∙ omega (arith, length-in_order key_before new.props, values-created_nodes news (first + 1), sum_by-cons new_node_values new news)
+
+values-created_rels : (news : List NewRel) (nodes first : ℕ) → sum_by rel_value_count (created_rels nodes first news) ≡ sum_by new_rel_values news
+values-created_rels [] nodes first = refl
+values-created_rels (new ∷ news) nodes first =
+    sum_by-cons rel_value_count (created_rel nodes first new) (created_rels nodes (first + 1) news)
+    ∙ omega (arith, length-in_order key_before new.props, values-created_rels news nodes (first + 1), sum_by-cons new_rel_values new news)
+
+IsNumbered-created_nodes : (news : List NewNode) (first : ℕ) → IsNumbered node_id first (map Some (created_nodes first news))
+IsNumbered-created_nodes [] first = tt
+IsNumbered-created_nodes (new ∷ news) first = (refl, IsNumbered-created_nodes news (first + 1))
+
+IsNumbered-created_rels : (news : List NewRel) (nodes first : ℕ) → IsNumbered rel_id first (map Some (created_rels nodes first news))
+IsNumbered-created_rels [] nodes first = tt
+IsNumbered-created_rels (new ∷ news) nodes first = (refl, IsNumbered-created_rels news nodes (first + 1))
+
+-- the slots with new elements behind the others
+abbrev pub nodes_with : List (Option Node) → List NewNode → List (Option Node)
+nodes_with nodes news = nodes ++ map Some (created_nodes (length nodes) news)
+
+abbrev pub rels_with : ℕ → List (Option Rel) → List NewRel → List (Option Rel)
+rels_with first rels news = rels ++ map Some (created_rels first (length rels) news)
+
+living-with : {A : Type 0} (slots : List (Option A)) (news : List A) → living (slots ++ map Some news) ≡ living slots ++ news
+living-with slots news = living-++ slots (map Some news) ∙ ap (λ rest. living slots ++ rest) (living-map_Some news)
+
+length-with : {A : Type 0} (slots : List (Option A)) (news : List A) → length (slots ++ map Some news) ≡ length slots + length news
+length-with {A} slots news = omega (arith, length-append slots (map Some news), length-map {A = A} {B = Option A} news Some)
+
+graph_of-created : (nodes : List (Option Node)) (rels : List (Option Rel)) (new_nodes : List NewNode) (new_rels : List NewRel) → graph_of (nodes_with nodes new_nodes) (rels_with (length nodes) rels new_rels) ≡ after_change (graph_of nodes rels) (Create new_nodes new_rels)
+graph_of-created nodes rels new_nodes new_rels =
+    let made_nodes = created_nodes (length nodes) new_nodes in let made_rels = created_rels (length nodes) (length rels) new_rels in
+    let living_nodes = living-with nodes made_nodes in let living_rels = living-with rels made_rels in
+    let many_nodes : length (nodes ++ map Some made_nodes) ≡ length nodes + length new_nodes = omega (arith, length-with nodes made_nodes, length-created_nodes new_nodes (length nodes)) in
+    let many_rels : length (rels ++ map Some made_rels) ≡ length rels + length new_rels = omega (arith, length-with rels made_rels, length-created_rels new_rels (length nodes) (length rels)) in cc
+
+-- the number of values with new elements
+values_with_created : (g : PropertyGraph) (new_nodes : List NewNode) (new_rels : List NewRel) → value_count (after_change g (Create new_nodes new_rels)) ≡ value_count g + (sum_by new_node_values new_nodes + sum_by new_rel_values new_rels)
+values_with_created g new_nodes new_rels =
+    omega (arith, sum_by-append node_value_count g.nodes (created_nodes g.next_node new_nodes), sum_by-append rel_value_count g.rels (created_rels g.next_node g.next_rel new_rels),
+      values-created_nodes new_nodes g.next_node, values-created_rels new_rels g.next_node g.next_rel)
+
+-- new elements are refused for a limit where all that they name lives
+pub created_refused : (nodes : List (Option Node)) (rels : List (Option Rel)) (g : PropertyGraph) (new_nodes : List NewNode) (new_rels : List NewRel) → IsNumbered node_id 0 nodes → graph_of nodes rels ≡ g → find (is_dead nodes) (flat_map named_ends new_rels) ≡ None → refused_change g (Create new_nodes new_rels) ≡ over_limits_with g new_nodes new_rels
+created_refused nodes rels g new_nodes new_rels numbered is found =
+    let named : find (node_missing g.nodes) (flat_map named_ends new_rels) ≡ None = rw (← is) (sym (missing_nodes nodes (flat_map named_ends new_rels) numbered) ∙ found) in
+    rw named (ap (λ n. first_there (over_limit quantity.Nodes most_nodes (g.next_node + length new_nodes)) (first_there (over_limit quantity.Rels most_rels (g.next_rel + length new_rels)) (over_limit quantity.Values most_values n)))
+      (values_with_created g new_nodes new_rels))
+
+-- and else leave sound slots, which are those of the graph to come
+pub created_made : (nodes : List (Option Node)) (rels : List (Option Rel)) (values : ℕ) (g : PropertyGraph) (new_nodes : List NewNode) (new_rels : List NewRel) (nodes_after : List (Option Node)) (rels_after : List (Option Rel)) (count : ℕ) → IsSound nodes rels values → graph_of nodes rels ≡ g → IsWellFormedChange (Create new_nodes new_rels) → find (is_dead nodes) (flat_map named_ends new_rels) ≡ None → nodes_after ≡ nodes_with nodes new_nodes → rels_after ≡ rels_with (length nodes) rels new_rels → (count ≡ value_count g + (sum_by new_node_values new_nodes + sum_by new_rel_values new_rels)) × (over_limits_with g new_nodes new_rels ≡ None) → IsSound nodes_after rels_after count × IsMadeBy g (Create new_nodes new_rels) (graph_of nodes_after rels_after)
+created_made nodes rels values g new_nodes new_rels nodes_after rels_after count sound is formed found nodes_is rels_is counted =
+    let before = graph_of nodes rels in
+    let change = Create new_nodes new_rels in
+    let allowed : refused_change g change ≡ None = created_refused nodes rels g new_nodes new_rels sound.node_slots is found ∙ counted.1 in
+    let graph : graph_of nodes_after rels_after ≡ after_change before change = rw (nodes_is, rels_is) (graph_of-created nodes rels new_nodes new_rels) in
+    let total : count ≡ value_count (graph_of nodes_after rels_after) =
+        counted.0 ∙ sym (values_with_created g new_nodes new_rels) ∙ ap (λ (x : PropertyGraph). value_count (after_change x change)) (sym is) ∙ ap value_count (sym graph) in
+    (sound_after nodes rels values change nodes_after rels_after count sound formed (subst (λ (x : PropertyGraph). refused_change x change ≡ None) (sym is) allowed) graph
+      (rw nodes_is (IsNumbered-++ node_id nodes (map Some (created_nodes (length nodes) new_nodes)) 0 (length nodes) sound.node_slots (omega arith) (IsNumbered-created_nodes new_nodes (length nodes))))
+      (rw rels_is (IsNumbered-++ rel_id rels (map Some (created_rels (length nodes) (length rels) new_rels)) 0 (length rels) sound.rel_slots (omega arith) (IsNumbered-created_rels new_rels (length nodes) (length rels)))) total,
+    (rw (← is) graph, allowed))

@@ -1,12 +1,12 @@
 // The graph to come, for each kind of change.
-ghost use Rattle.std.specs.Prelude.{◌≡◌, ◌+◌, None, Some, IfOk, IfErr};
+ghost use Rattle.std.specs.Prelude.{◌≡◌, ◌+◌, sum_by, None, Some, IfOk, IfErr};
 ghost use Rattle.graph_model.specs.Graph.{most_values, value_count};
 ghost use Rattle.graph_model.specs.Refusals.{UnlessMem};
 ghost use Rattle.graph_model.specs.Change.{over_limit, refused_change, IsWellFormedChange};
-ghost use Rattle.graph_store.specs.Missing.{IsMadeBy};
+ghost use Rattle.graph_store.specs.Missing.{IsMadeBy, new_node_values, new_rel_values, over_limits_with};
 
-use crate::checks::{missing_end, missing_id, missing_of_pairs, new_value_count};
-use crate::creating::{create_nodes, create_rels};
+use crate::checks::{missing_end, new_value_count};
+use crate::creating::{with_nodes, with_rels};
 use crate::deleting::{without, without_loose};
 use crate::setting::with_values;
 use crate::store::Store;
@@ -19,6 +19,17 @@ const MOST_NODES: u64 = 4_194_304;
 const MOST_RELS: u64 = 16_777_216;
 const MOST_VALUES: u64 = 33_554_432;
 
+/// A limit would be passed.
+fn full(which: Quantity, limit: u64) -> Refusal
+    ensures { result ≡ Refusal.Full which limit 0 }
+{
+    Refusal::Full {
+        which,
+        limit,
+        batches: 0,
+    }
+}
+
 impl Store {
     /// The number of values when there are so many more.
     ///
@@ -29,11 +40,7 @@ impl Store {
         ensures err { IfErr result (λ why. over_limit Quantity.Values most_values (value_count self.now + added) ≡ Some why) }
     {
         if added > MOST_VALUES - self.values {
-            return Err(Refusal::Full {
-                which: Quantity::Values,
-                limit: MOST_VALUES,
-                batches: 0,
-            });
+            return Err(full(Quantity::Values, MOST_VALUES));
         }
         Ok(self.values + added)
     }
@@ -105,6 +112,57 @@ impl Store {
             nodes,
             rels,
             values: self.values - rel_values,
+        })
+    }
+
+    /// The number of values when new elements are there.
+    ///
+    /// # Errors
+    /// `Full` for the first of nodes, relationships and values that would be over its limit.
+    fn values_with_created(
+        &self,
+        nodes: &List<NewNode>,
+        rels: &List<NewRel>,
+    ) -> Result<u64, Refusal>
+        ensures ok { IfOk result (λ count. (count ≡ value_count self.now + (sum_by new_node_values nodes.now + sum_by new_rel_values rels.now))
+            × (over_limits_with self.now nodes.now rels.now ≡ None)) }
+        ensures err { IfErr result (λ why. over_limits_with self.now nodes.now rels.now ≡ Some why) }
+    {
+        if nodes.len() as u64 > MOST_NODES - self.nodes.len() as u64 {
+            return Err(full(Quantity::Nodes, MOST_NODES));
+        }
+        if rels.len() as u64 > MOST_RELS - self.rels.len() as u64 {
+            return Err(full(Quantity::Rels, MOST_RELS));
+        }
+        self.values_with(new_value_count(nodes.as_slice(), rels.as_slice()))
+    }
+
+    /// The graph with new elements.
+    pub(crate) fn with_created(
+        &self,
+        alloc: Global,
+        nodes: &List<NewNode>,
+        rels: &List<NewRel>,
+    ) -> Result<Store, Refusal>
+        requires { IsWellFormedChange (Change.Create nodes.now rels.now) }
+        ensures ok { IfOk result (IsMadeBy self.now (Change.Create nodes.now rels.now)) }
+        ensures refused { IfErr result (λ why. UnlessMem why (refused_change self.now (Change.Create nodes.now rels.now) ≡ Some why)) }
+    {
+        if let Some(id) = missing_end(&self.nodes, rels.as_slice()) {
+            return Err(Refusal::NoSuchEntity {
+                kind: EntityKind::Node,
+                id,
+            });
+        }
+        let values = self.values_with_created(nodes, rels)?;
+        let first = self.nodes.len() as u32;
+        let count = nodes.len() as u32;
+        let nodes = with_nodes(&self.nodes, alloc, nodes)?;
+        let rels = with_rels(&self.rels, alloc, first, count, rels)?;
+        Ok(Store {
+            nodes,
+            rels,
+            values,
         })
     }
 }

@@ -6,8 +6,8 @@ ghost use Rattle.graph_store.specs.Created.{created_node, created_rel};
 
 use crate::ordering::{ordered_labels, ordered_props};
 use crate::slot::Slot;
-use crate::table::Draft;
-use graph_model::{Mem, NewNode, NewRel, Node, Place, Rel, TryClone};
+use crate::table::{Draft, Table};
+use graph_model::{List, Mem, NewNode, NewRel, Node, Place, Rel, TryClone};
 use std::alloc::Global;
 
 /// A new node, as it lives.
@@ -21,7 +21,7 @@ fn create_node(alloc: Global, id: u32, new: &NewNode) -> Result<Slot<Node>, Mem>
 }
 
 /// New nodes behind the others.
-pub(crate) fn create_nodes(
+fn create_nodes(
     slots: &mut Draft<Slot<Node>>,
     alloc: Global,
     news: &[NewNode],
@@ -72,7 +72,7 @@ fn create_rel(alloc: Global, first: u32, count: u32, id: u32, new: &NewRel) -> R
 }
 
 /// New relationships behind the others, where the `count` new nodes have their ids from `first` on.
-pub(crate) fn create_rels(
+fn create_rels(
     slots: &mut Draft<Slot<Rel>>,
     alloc: Global,
     first: u32,
@@ -89,4 +89,37 @@ pub(crate) fn create_rels(
         slots.push(alloc, slot)?;
     }
     Ok(())
+}
+
+/// The slots with new nodes behind the others.
+pub(crate) fn with_nodes(
+    slots: &Table<Slot<Node>>,
+    alloc: Global,
+    news: &List<NewNode>,
+) -> Result<Table<Slot<Node>>, Mem>
+    requires distinct { AllByRecursion IsDistinctNode news.now }
+    requires few { length slots.now + length news.now ≤ 2 ^ 32 }
+    ensures { IfOk result (λ made. made ≡ slots.now ++ map Some (created_nodes (length slots.now) news.now)) }
+{
+    let mut draft = slots.edit(alloc)?;
+    create_nodes(&mut draft, alloc, news.as_slice())?;
+    draft.finish(alloc)
+}
+
+/// The slots with new relationships behind the others, where the `count` new nodes have their ids from `first` on.
+pub(crate) fn with_rels(
+    slots: &Table<Slot<Rel>>,
+    alloc: Global,
+    first: u32,
+    count: u32,
+    news: &List<NewRel>,
+) -> Result<Table<Slot<Rel>>, Mem>
+    requires distinct { AllByRecursion (IsDistinctRel count) news.now }
+    requires fits { first + count ≤ 2 ^ 32 }
+    requires few { length slots.now + length news.now ≤ 2 ^ 32 }
+    ensures { IfOk result (λ made. made ≡ slots.now ++ map Some (created_rels first (length slots.now) news.now)) }
+{
+    let mut draft = slots.edit(alloc)?;
+    create_rels(&mut draft, alloc, first, count, news.as_slice())?;
+    draft.finish(alloc)
 }
