@@ -2,18 +2,19 @@
 ghost use Rattle.std.specs.Prelude.{◌≡◌, ◌+◌, sum_by, None, Some, IfOk, IfErr};
 ghost use Rattle.graph_model.specs.Graph.{most_values, value_count};
 ghost use Rattle.graph_model.specs.Refusals.{UnlessMem};
-ghost use Rattle.graph_model.specs.Change.{over_limit, refused_change, IsWellFormedChange};
+ghost use Rattle.graph_model.specs.Change.{after_change, over_limit, refused_change, IsWellFormedChange};
 ghost use Rattle.graph_store.specs.Missing.{IsMadeBy, new_node_values, new_rel_values, over_limits_with};
 
 use crate::checks::{missing_end, new_value_count};
 use crate::creating::{with_nodes, with_rels};
 use crate::deleting::{without, without_loose};
 use crate::setting::with_values;
-use crate::store::Store;
+use crate::store::{Prepared, Store};
 use graph_model::{
     Change, EntityKind, List, Name, NewNode, NewRel, Quantity, Refusal, TryClone,
 };
 use std::alloc::Global;
+use std::snapshot::Snapshot as Before;
 
 const MOST_NODES: u64 = 4_194_304;
 const MOST_RELS: u64 = 16_777_216;
@@ -163,6 +164,40 @@ impl Store {
             nodes,
             rels,
             values,
+        })
+    }
+
+    /// The graph after a change.
+    fn after(&self, alloc: Global, change: &Change) -> Result<Store, Refusal>
+        requires { IsWellFormedChange change.now }
+        ensures ok { IfOk result (IsMadeBy self.now change.now) }
+        ensures refused { IfErr result (λ why. UnlessMem why (refused_change self.now change.now ≡ Some why)) }
+    {
+        match change {
+            Change::Create { nodes, rels } => self.with_created(alloc, nodes, rels),
+            Change::SetNodes { key, values } => self.with_node_values(alloc, key, values),
+            Change::SetRels { key, values } => self.with_rel_values(alloc, key, values),
+            Change::DeleteNodes { ids } => self.without_nodes(alloc, ids),
+            Change::DeleteRels { ids } => self.without_rels(alloc, ids),
+        }
+    }
+
+    /// Makes ready a change whose new elements have distinct labels and keys, and whose new ends lie among its new
+    /// nodes. It takes all the memory that the change needs. The store stays as it is.
+    ///
+    /// # Errors
+    /// `NoSuchEntity` with the first id that the change names and that doesn't live; else `Full` for the first of
+    /// nodes, relationships and values that would be over its limit; or `Mem`.
+    pub fn prepare(&self, alloc: Global, change: &Change) -> Result<Prepared, Refusal>
+        requires { IsWellFormedChange change.now }
+        ensures ok { IfOk result (λ made. (made ≡ record { before = self.now; after = after_change self.now change.now })
+            × (refused_change self.now change.now ≡ None)) }
+        ensures refused { IfErr result (λ why. UnlessMem why (refused_change self.now change.now ≡ Some why)) }
+    {
+        let after = self.after(alloc, change)?;
+        Ok(Prepared {
+            before: Before::of(self),
+            after,
         })
     }
 }

@@ -134,8 +134,8 @@ impl TryClone for Store {
 /// A change that was prepared: the graph that it was prepared on, and the graph to come.
 #[derive(Drop)]
 pub struct Prepared {
-    before: Before<Store>,
-    after: Store,
+    pub(crate) before: Before<Store>,
+    pub(crate) after: Store,
 }
 
 impl Model for Prepared {
