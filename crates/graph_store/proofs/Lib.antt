@@ -1,0 +1,10 @@
+pub mod BoolFacts
+pub mod ListFacts
+pub mod SlotLemmas
+pub mod Placing
+pub mod SettingLemmas
+pub mod EditLemmas
+pub mod OrderLemmas
+pub mod ValidValues
+pub mod ValidLaws
+pub mod ChangeLemmas

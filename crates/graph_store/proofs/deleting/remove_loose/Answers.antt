@@ -1,0 +1,13 @@
+use Rattle.std.proofs.Common.{◌≡◌, None, arith}
+use Rattle.graph_store.specs.Slots.{kept}
+use Rattle.graph_store.specs.Edits.{ends_live}
+use Rattle.graph_store.proofs.SlotLemmas.{set-front, get_or-front}
+use Rattle.graph_store.proofs.deleting.remove_loose.Goals as goal
+
+pub loop-row-preserved : goal.loop-row-preserved
+loop-row-preserved c =
+    let rels = c.args.rels.now in
+    let f = kept (ends_live c.args.nodes.now) in
+    let same = get_or-front f rels c.loop-row.row None (omega arith) in
+    (rw (c.in_ok-removed.ensures.removed, c.loop-row.invariant.0, same) (set-front f rels c.loop-row.row None (omega arith)),
+    omega (arith, c.loop-row.invariant.1, c.in_ok-removed.ensures.counted))

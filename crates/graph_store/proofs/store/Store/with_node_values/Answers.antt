@@ -1,0 +1,32 @@
+use Rattle.std.proofs.Common.{◌≡◌, Some, None, sym, ◌∙◌, arith}
+use Rattle.std.proofs.lemmas.Result.{err_from_is_err_and}
+use Rattle.graph_model.specs.declared.change.Change.TheVariants.{SetNodes}
+use Rattle.graph_model.specs.Change.{refused_change}
+use Rattle.graph_store.proofs.ChangeLemmas.{unless_mem, refused_for_node, nodes_set_refused, nodes_set_made}
+use Rattle.graph_store.proofs.store.Store.with_node_values.Goals as goal
+
+pub returns-in_err-nodes-clause-refused : goal.returns-in_err-nodes-clause-refused
+returns-in_err-nodes-clause-refused c =
+    let p = err_from_is_err_and c.from_residual.result c.from_residual.ensures.1 in
+    rw (p.1, p.2) (refused_for_node c.self.inside.nodes c.self.inside.rels c.args.self.now (SetNodes c.args.key.now c.args.values.now) c.in_err-nodes.field-0.0
+    c.self.invariant.node_slots c.self.view_is c.in_err-nodes.ensures.refused)
+
+pub returns-in_err-values-clause-refused : goal.returns-in_err-values-clause-refused
+returns-in_err-values-clause-refused c =
+    let p = err_from_is_err_and c.from_residual-in_err-values.result c.from_residual-in_err-values.ensures.1 in
+    let set = c.in_ok-nodes.ensures in
+    rw (p.1, p.2) (unless_mem c.in_err-values.field-0.0 (refused_change c.args.self.now (SetNodes c.args.key.now c.args.values.now) ≡ Some c.in_err-values.field-0.0)
+    (nodes_set_refused c.self.inside.nodes c.self.inside.rels c.self.inside.values c.args.self.now c.args.key.now c.args.values.now c.in_ok-nodes.nodes c.in_ok-nodes.added
+      (record { sound = c.self.invariant; is = c.self.view_is; found = set.found; set = set.set; grown = set.added }) ∙ c.in_err-values.ensures.err))
+
+pub invariant_of-result : goal.invariant_of-result
+invariant_of-result c =
+    let set = c.in_ok-nodes.ensures in
+    (nodes_set_made c.self.inside.nodes c.self.inside.rels c.self.inside.values c.args.self.now c.args.key.now c.args.values.now c.in_ok-nodes.nodes c.in_ok-nodes.added c.in_ok-values.values c.in_ok-rels.rels
+      (record { sound = c.self.invariant; is = c.self.view_is; found = set.found; set = set.set; grown = set.added }) c.in_ok-values.ensures.ok c.in_ok-rels.ensures).0
+
+pub returns-clause-ok : goal.returns-clause-ok
+returns-clause-ok c =
+    let set = c.in_ok-nodes.ensures in
+    (nodes_set_made c.self.inside.nodes c.self.inside.rels c.self.inside.values c.args.self.now c.args.key.now c.args.values.now c.in_ok-nodes.nodes c.in_ok-nodes.added c.in_ok-values.values c.in_ok-rels.rels
+      (record { sound = c.self.invariant; is = c.self.view_is; found = set.found; set = set.set; grown = set.added }) c.in_ok-values.ensures.ok c.in_ok-rels.ensures).1

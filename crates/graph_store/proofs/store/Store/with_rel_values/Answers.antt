@@ -1,0 +1,32 @@
+use Rattle.std.proofs.Common.{◌≡◌, Some, None, sym, ◌∙◌, refl, arith}
+use Rattle.std.proofs.lemmas.Result.{err_from_is_err_and}
+use Rattle.graph_model.specs.declared.change.Change.TheVariants.{SetRels}
+use Rattle.graph_model.specs.Change.{refused_change}
+use Rattle.graph_store.proofs.ChangeLemmas.{unless_mem, refused_for_rel, rels_set_refused, rels_set_made}
+use Rattle.graph_store.proofs.store.Store.with_rel_values.Goals as goal
+
+pub returns-in_err-rels-clause-refused : goal.returns-in_err-rels-clause-refused
+returns-in_err-rels-clause-refused c =
+    let p = err_from_is_err_and c.from_residual.result c.from_residual.ensures.1 in
+    rw (p.1, p.2) (refused_for_rel c.self.inside.nodes c.self.inside.rels c.args.self.now (SetRels c.args.key.now c.args.values.now) c.in_err-rels.field-0.0
+    c.self.invariant.rel_slots c.self.view_is refl c.in_err-rels.ensures.refused)
+
+pub returns-in_err-values-clause-refused : goal.returns-in_err-values-clause-refused
+returns-in_err-values-clause-refused c =
+    let p = err_from_is_err_and c.from_residual-in_err-values.result c.from_residual-in_err-values.ensures.1 in
+    let set = c.in_ok-rels.ensures in
+    rw (p.1, p.2) (unless_mem c.in_err-values.field-0.0 (refused_change c.args.self.now (SetRels c.args.key.now c.args.values.now) ≡ Some c.in_err-values.field-0.0)
+    (rels_set_refused c.self.inside.nodes c.self.inside.rels c.self.inside.values c.args.self.now c.args.key.now c.args.values.now c.in_ok-rels.rels c.in_ok-rels.added
+      (record { sound = c.self.invariant; is = c.self.view_is; found = set.found; set = set.set; grown = set.added }) ∙ c.in_err-values.ensures.err))
+
+pub invariant_of-result : goal.invariant_of-result
+invariant_of-result c =
+    let set = c.in_ok-rels.ensures in
+    (rels_set_made c.self.inside.nodes c.self.inside.rels c.self.inside.values c.args.self.now c.args.key.now c.args.values.now c.in_ok-rels.rels c.in_ok-rels.added c.in_ok-values.values c.in_ok-nodes.nodes
+      (record { sound = c.self.invariant; is = c.self.view_is; found = set.found; set = set.set; grown = set.added }) c.in_ok-values.ensures.ok c.in_ok-nodes.ensures).0
+
+pub returns-clause-ok : goal.returns-clause-ok
+returns-clause-ok c =
+    let set = c.in_ok-rels.ensures in
+    (rels_set_made c.self.inside.nodes c.self.inside.rels c.self.inside.values c.args.self.now c.args.key.now c.args.values.now c.in_ok-rels.rels c.in_ok-rels.added c.in_ok-values.values c.in_ok-nodes.nodes
+      (record { sound = c.self.invariant; is = c.self.view_is; found = set.found; set = set.set; grown = set.added }) c.in_ok-values.ensures.ok c.in_ok-nodes.ensures).1

@@ -1,0 +1,8 @@
+-- How a store keeps its graph, and what it tells of it.
+pub mod Missing
+pub mod Slots
+pub mod Created
+pub mod Edits
+pub mod Stored
+pub mod Told
+pub mod Prepared
