@@ -152,9 +152,10 @@ nodes_set_made nodes rels values g key pairs after added count copied made count
     let graph : graph_of after rels ≡ after_change before (SetNodes key pairs) = rw made.set (graph_of-set_nodes nodes rels key pairs) in
     rw same (
       sound_after nodes rels values (SetNodes key pairs) after rels count made.sound tt (subst (λ (x : PropertyGraph). refused_change x (SetNodes key pairs) ≡ None) (sym made.is) allowed) graph
-      (rw made.set (IsNumbered-map node_id (node_after key pairs) nodes 0 (λ node. refl) made.sound.node_slots)) made.sound.rel_slots
-      (counted.0 ∙ rw (← made.is) (sym (more_node_values nodes after rels added made.grown))),
-      (rw (← made.is) graph, allowed))
+          (rw made.set (IsNumbered-map node_id (node_after key pairs) nodes 0 (λ node. refl) made.sound.node_slots)) made.sound.rel_slots
+          (counted.0 ∙ rw (← made.is) (sym (more_node_values nodes after rels added made.grown))),
+      (rw (← made.is) graph, allowed),
+    )
 
 -- ---- values of relationships are set
 
@@ -184,9 +185,10 @@ rels_set_made nodes rels values g key pairs after added count copied made counte
     let graph : graph_of nodes after ≡ after_change before (SetRels key pairs) = rw made.set (graph_of-set_rels nodes rels key pairs) in
     rw same (
       sound_after nodes rels values (SetRels key pairs) nodes after count made.sound tt (subst (λ (x : PropertyGraph). refused_change x (SetRels key pairs) ≡ None) (sym made.is) allowed) graph
-      made.sound.node_slots (rw made.set (IsNumbered-map rel_id (rel_after key pairs) rels 0 (λ rel. refl) made.sound.rel_slots))
-      (counted.0 ∙ rw (← made.is) (sym (more_rel_values nodes rels after added made.grown))),
-      (rw (← made.is) graph, allowed))
+          made.sound.node_slots (rw made.set (IsNumbered-map rel_id (rel_after key pairs) rels 0 (λ rel. refl) made.sound.rel_slots))
+          (counted.0 ∙ rw (← made.is) (sym (more_rel_values nodes rels after added made.grown))),
+      (rw (← made.is) graph, allowed),
+    )
 
 -- ---- elements go
 
@@ -222,12 +224,13 @@ rels_gone_made nodes rels values g ids after removed copied made same =
     let counted : values - removed ≡ value_count (graph_of nodes after) = omega (arith, fit.0, slots, made.counted) in
     let few : value_count (graph_of nodes after) ≤ most_values = omega (arith, fit.0, fit.1, slots, made.counted) in
     let allowed : refused_change before (DeleteRels ids) ≡ None =
-        allowed_values before (DeleteRels ids) refl (sym (missing_rels rels ids made.sound.rel_slots) ∙ made.found) made.sound.within.nodes made.sound.within.rels
-        (subst (λ (x : PropertyGraph). value_count x ≤ most_values) graph few) in
+    allowed_values before (DeleteRels ids) refl (sym (missing_rels rels ids made.sound.rel_slots) ∙ made.found) made.sound.within.nodes made.sound.within.rels
+    (subst (λ (x : PropertyGraph). value_count x ≤ most_values) graph few) in
     rw same (
       sound_after nodes rels values (DeleteRels ids) nodes after (values - removed) made.sound tt allowed graph
-      made.sound.node_slots (rw made.gone (IsNumbered-kept rel_id (is_unlisted rel_id ids) rels 0 made.sound.rel_slots)) counted,
-      (rw (← made.is) graph, subst (λ (x : PropertyGraph). refused_change x (DeleteRels ids) ≡ None) made.is allowed))
+          made.sound.node_slots (rw made.gone (IsNumbered-kept rel_id (is_unlisted rel_id ids) rels 0 made.sound.rel_slots)) counted,
+      (rw (← made.is) graph, subst (λ (x : PropertyGraph). refused_change x (DeleteRels ids) ≡ None) made.is allowed),
+    )
 
 -- ---- nodes go, and the relationships at them
 
@@ -250,8 +253,8 @@ kept_lives ids id None is lives = cc
 kept_lives ids id (Some node) is lives =
     let own : is_listed ids node.id ≡ is_listed ids id = ap (is_listed ids) (is node refl) in
     elim (cases_Bool (is_listed ids id)) [
-      inl listed ↦ let here : is_listed ids node.id ≡ true = own ∙ listed in rw (here, listed) refl
-    | inr unlisted ↦ let here : is_listed ids node.id ≡ false = own ∙ unlisted in rw (here, unlisted) refl
+      | inl listed ↦ let here : is_listed ids node.id ≡ true = own ∙ listed in rw (here, listed) refl
+      | inr unlisted ↦ let here : is_listed ids node.id ≡ false = own ∙ unlisted in rw (here, unlisted) refl
     ]
 
 -- an end that lived lives on exactly if it isn't listed
@@ -266,8 +269,8 @@ graph_of-nodes_gone nodes rels ids left numbered ends is =
     let nodes_left : living left ≡ filter (keeps_node ids) (living nodes) = ap living is ∙ living-kept (is_unlisted node_id ids) nodes in
     let nodes_long : length left ≡ length nodes = ap length is ∙ length-map nodes (kept (is_unlisted node_id ids)) in
     let rels_left : living (map (kept (ends_live left)) rels) ≡ filter (keeps_ends ids) (living rels) =
-        living-kept (ends_live left) rels ∙ filter_agree_on (EndsLive (living nodes)) (ends_live left) (keeps_ends ids) (living rels)
-          (λ rel live. let source = end_kept nodes ids rel.source numbered live.0 in let target = end_kept nodes ids rel.target numbered live.1 in rw (is, source, target) refl) ends in
+    living-kept (ends_live left) rels ∙ filter_agree_on (EndsLive (living nodes)) (ends_live left) (keeps_ends ids) (living rels)
+    (λ rel live. let source = end_kept nodes ids rel.source numbered live.0 in let target = end_kept nodes ids rel.target numbered live.1 in rw (is, source, target) refl) ends in
     let rels_long : length (map (kept (ends_live left)) rels) ≡ length rels = length-map rels (kept (ends_live left)) in cc
 
 -- the slots without listed nodes, and without the relationships at them
@@ -284,18 +287,19 @@ pub nodes_gone_made : (nodes : List (Option Node)) (rels : List (Option Rel)) (v
 nodes_gone_made nodes rels values g ids nodes_left rels_left node_values rel_values made =
     let before = graph_of nodes rels in
     let graph : graph_of nodes_left rels_left ≡ after_change before (DeleteNodes ids) =
-        ap (graph_of nodes_left) made.rels_gone ∙ graph_of-nodes_gone nodes rels ids nodes_left made.sound.node_slots made.sound.valid.ends made.nodes_gone in
+    ap (graph_of nodes_left) made.rels_gone ∙ graph_of-nodes_gone nodes rels ids nodes_left made.sound.node_slots made.sound.valid.ends made.nodes_gone in
     let fit = values_fit nodes rels values made.sound in
     let slots = value_count-slots nodes_left rels_left in
     let counted : values - node_values - rel_values ≡ value_count (graph_of nodes_left rels_left) = omega (arith, fit.0, slots, made.node_count, made.rel_count) in
     let few : value_count (graph_of nodes_left rels_left) ≤ most_values = omega (arith, fit.0, fit.1, slots, made.node_count, made.rel_count) in
     let allowed : refused_change before (DeleteNodes ids) ≡ None =
-        allowed_values before (DeleteNodes ids) (sym (missing_nodes nodes ids made.sound.node_slots) ∙ made.found) refl made.sound.within.nodes made.sound.within.rels
-        (subst (λ (x : PropertyGraph). value_count x ≤ most_values) graph few) in
-    (sound_after nodes rels values (DeleteNodes ids) nodes_left rels_left (values - node_values - rel_values) made.sound tt allowed graph
-      (rw made.nodes_gone (IsNumbered-kept node_id (is_unlisted node_id ids) nodes 0 made.sound.node_slots))
-      (rw made.rels_gone (IsNumbered-kept rel_id (ends_live nodes_left) rels 0 made.sound.rel_slots)) counted,
-    (rw (← made.is) graph, subst (λ (x : PropertyGraph). refused_change x (DeleteNodes ids) ≡ None) made.is allowed))
+    allowed_values before (DeleteNodes ids) (sym (missing_nodes nodes ids made.sound.node_slots) ∙ made.found) refl made.sound.within.nodes made.sound.within.rels
+    (subst (λ (x : PropertyGraph). value_count x ≤ most_values) graph few) in (
+      sound_after nodes rels values (DeleteNodes ids) nodes_left rels_left (values - node_values - rel_values) made.sound tt allowed graph
+          (rw made.nodes_gone (IsNumbered-kept node_id (is_unlisted node_id ids) nodes 0 made.sound.node_slots))
+          (rw made.rels_gone (IsNumbered-kept rel_id (ends_live nodes_left) rels 0 made.sound.rel_slots)) counted,
+      (rw (← made.is) graph, subst (λ (x : PropertyGraph). refused_change x (DeleteNodes ids) ≡ None) made.is allowed),
+    )
 
 -- ---- elements are made
 
@@ -362,15 +366,20 @@ graph_of-created nodes rels new_nodes new_rels =
 -- the number of values with new elements
 values_with_created : (g : PropertyGraph) (new_nodes : List NewNode) (new_rels : List NewRel) → value_count (after_change g (Create new_nodes new_rels)) ≡ value_count g + (sum_by new_node_values new_nodes + sum_by new_rel_values new_rels)
 values_with_created g new_nodes new_rels =
-    omega (arith, sum_by-append node_value_count g.nodes (created_nodes g.next_node new_nodes), sum_by-append rel_value_count g.rels (created_rels g.next_node g.next_rel new_rels),
-      values-created_nodes new_nodes g.next_node, values-created_rels new_rels g.next_node g.next_rel)
+    omega (
+      arith,
+      sum_by-append node_value_count g.nodes (created_nodes g.next_node new_nodes),
+      sum_by-append rel_value_count g.rels (created_rels g.next_node g.next_rel new_rels),
+      values-created_nodes new_nodes g.next_node,
+      values-created_rels new_rels g.next_node g.next_rel,
+    )
 
 -- new elements are refused for a limit where all that they name lives
 pub created_refused : (nodes : List (Option Node)) (rels : List (Option Rel)) (g : PropertyGraph) (new_nodes : List NewNode) (new_rels : List NewRel) → IsNumbered node_id 0 nodes → graph_of nodes rels ≡ g → find (is_dead nodes) (flat_map named_ends new_rels) ≡ None → refused_change g (Create new_nodes new_rels) ≡ over_limits_with g new_nodes new_rels
 created_refused nodes rels g new_nodes new_rels numbered is found =
     let named : find (node_missing g.nodes) (flat_map named_ends new_rels) ≡ None = rw (← is) (sym (missing_nodes nodes (flat_map named_ends new_rels) numbered) ∙ found) in
     rw named (ap (λ n. first_there (over_limit quantity.Nodes most_nodes (g.next_node + length new_nodes)) (first_there (over_limit quantity.Rels most_rels (g.next_rel + length new_rels)) (over_limit quantity.Values most_values n)))
-      (values_with_created g new_nodes new_rels))
+    (values_with_created g new_nodes new_rels))
 
 -- and else leave sound slots, which are those of the graph to come
 pub created_made : (nodes : List (Option Node)) (rels : List (Option Rel)) (values : ℕ) (g : PropertyGraph) (new_nodes : List NewNode) (new_rels : List NewRel) (nodes_after : List (Option Node)) (rels_after : List (Option Rel)) (count : ℕ) → IsSound nodes rels values → graph_of nodes rels ≡ g → IsWellFormedChange (Create new_nodes new_rels) → find (is_dead nodes) (flat_map named_ends new_rels) ≡ None → nodes_after ≡ nodes_with nodes new_nodes → rels_after ≡ rels_with (length nodes) rels new_rels → (count ≡ value_count g + (sum_by new_node_values new_nodes + sum_by new_rel_values new_rels)) × (over_limits_with g new_nodes new_rels ≡ None) → IsSound nodes_after rels_after count × IsMadeBy g (Create new_nodes new_rels) (graph_of nodes_after rels_after)
@@ -380,8 +389,9 @@ created_made nodes rels values g new_nodes new_rels nodes_after rels_after count
     let allowed : refused_change g change ≡ None = created_refused nodes rels g new_nodes new_rels sound.node_slots is found ∙ counted.1 in
     let graph : graph_of nodes_after rels_after ≡ after_change before change = rw (nodes_is, rels_is) (graph_of-created nodes rels new_nodes new_rels) in
     let total : count ≡ value_count (graph_of nodes_after rels_after) =
-        counted.0 ∙ sym (values_with_created g new_nodes new_rels) ∙ ap (λ (x : PropertyGraph). value_count (after_change x change)) (sym is) ∙ ap value_count (sym graph) in
-    (sound_after nodes rels values change nodes_after rels_after count sound formed (subst (λ (x : PropertyGraph). refused_change x change ≡ None) (sym is) allowed) graph
-      (rw nodes_is (IsNumbered-++ node_id nodes (map Some (created_nodes (length nodes) new_nodes)) 0 (length nodes) sound.node_slots (omega arith) (IsNumbered-created_nodes new_nodes (length nodes))))
-      (rw rels_is (IsNumbered-++ rel_id rels (map Some (created_rels (length nodes) (length rels) new_rels)) 0 (length rels) sound.rel_slots (omega arith) (IsNumbered-created_rels new_rels (length nodes) (length rels)))) total,
-    (rw (← is) graph, allowed))
+    counted.0 ∙ sym (values_with_created g new_nodes new_rels) ∙ ap (λ (x : PropertyGraph). value_count (after_change x change)) (sym is) ∙ ap value_count (sym graph) in (
+      sound_after nodes rels values change nodes_after rels_after count sound formed (subst (λ (x : PropertyGraph). refused_change x change ≡ None) (sym is) allowed) graph
+          (rw nodes_is (IsNumbered-++ node_id nodes (map Some (created_nodes (length nodes) new_nodes)) 0 (length nodes) sound.node_slots (omega arith) (IsNumbered-created_nodes new_nodes (length nodes))))
+          (rw rels_is (IsNumbered-++ rel_id rels (map Some (created_rels (length nodes) (length rels) new_rels)) 0 (length rels) sound.rel_slots (omega arith) (IsNumbered-created_rels new_rels (length nodes) (length rels)))) total,
+      (rw (← is) graph, allowed),
+    )

@@ -55,12 +55,12 @@ edit_slot-again : {A : Type 0} (id_of : A → ℕ) (edit : A → Option A) (ids 
 edit_slot-again id_of edit ids id None same = refl
 edit_slot-again id_of edit ids id (Some x) same =
     elim (cases_eq (id_of x) id) [
-      inr apart ↦ edit_slot-others id_of edit ids id x apart
-    | inl is ↦ elim (cases_Bool (is_listed ids id)) [
-        inl listed ↦ let before : is_listed ids (id_of x) ≡ true = rw is listed in
-          let after = is_listed-new ids id (id_of x) is in rw (before, after) refl
-      | inr unlisted ↦ let before : is_listed ids (id_of x) ≡ false = rw is unlisted in
-          let after = is_listed-new ids id (id_of x) is in rw (before, after) (sym (same unlisted x is))
+      | inr apart ↦ edit_slot-others id_of edit ids id x apart
+      | inl is ↦ elim (cases_Bool (is_listed ids id)) [
+        | inl listed ↦ let before : is_listed ids (id_of x) ≡ true = rw is listed in
+            let after = is_listed-new ids id (id_of x) is in rw (before, after) refl
+        | inr unlisted ↦ let before : is_listed ids (id_of x) ≡ false = rw is unlisted in
+            let after = is_listed-new ids id (id_of x) is in rw (before, after) (sym (same unlisted x is))
       ]
     ]
 
@@ -89,8 +89,8 @@ edit-all id_of change (None ∷ slots) ids same = ap (λ rest. None ∷ rest) (e
 edit-all id_of change (Some x ∷ slots) ids same =
     let rest = edit-all id_of change slots ids same in
     elim (cases_Bool (is_listed ids (id_of x))) [
-      inl listed ↦ rw listed (ap (λ ss. Some (change x) ∷ ss) rest)
-    | inr unlisted ↦ let own = same x unlisted in rw unlisted (cc)
+      | inl listed ↦ rw listed (ap (λ ss. Some (change x) ∷ ss) rest)
+      | inr unlisted ↦ let own = same x unlisted in rw unlisted (cc)
     ]
 
 -- the elements that aren't listed stay
@@ -100,8 +100,8 @@ edit-gone id_of (None ∷ slots) ids = ap (λ rest. None ∷ rest) (edit-gone id
 edit-gone id_of (Some x ∷ slots) ids =
     let rest = edit-gone id_of slots ids in
     elim (cases_Bool (is_listed ids (id_of x))) [
-      inl listed ↦ rw listed (ap (λ ss. None ∷ ss) rest)
-    | inr unlisted ↦ rw unlisted (ap (λ ss. Some x ∷ ss) rest)
+      | inl listed ↦ rw listed (ap (λ ss. None ∷ ss) rest)
+      | inr unlisted ↦ rw unlisted (ap (λ ss. Some x ∷ ss) rest)
     ]
 
 -- nothing is edited yet
@@ -116,12 +116,12 @@ edit-none id_of edit (Some x ∷ slots) = ap (λ rest. Some x ∷ rest) (edit-no
 pub last_values_left : (pairs : List (ℕ × ℤ)) (ids : List ℕ) (id other : ℕ) (before after : Option ℤ) → before ≡ cond (is_listed ids other) None (last_value pairs other) → after ≡ cond (is_at (nat_cmp id) other) None before → after ≡ cond (is_listed (ids ++ id ∷ []) other) None (last_value pairs other)
 last_values_left pairs ids id other before after was now =
     elim (cases_eq other id) [
-      inl is ↦ let new = is_listed-new ids id other is in
-        let here : is_at (nat_cmp id) other ≡ true = is_at-nat id other ∙ eq-eqb id other (sym is) in
-        rw new (rw here at now)
-    | inr apart ↦ let others = is_listed-others ids id other apart in
-        let elsewhere : is_at (nat_cmp id) other ≡ false = is_at-nat id other ∙ ne_eqb id other (λ same. apart (sym same)) in
-        rw others ((rw elsewhere at now) ∙ was)
+      | inl is ↦ let new = is_listed-new ids id other is in
+          let here : is_at (nat_cmp id) other ≡ true = is_at-nat id other ∙ eq-eqb id other (sym is) in
+          rw new (rw here at now)
+      | inr apart ↦ let others = is_listed-others ids id other apart in
+          let elsewhere : is_at (nat_cmp id) other ≡ false = is_at-nat id other ∙ ne_eqb id other (λ same. apart (sym same)) in
+          rw others ((rw elsewhere at now) ∙ was)
     ]
 
 -- the slots after the pairs of these ids were set, and the last values that are left
@@ -145,8 +145,8 @@ set_by-unlisted id_of props_of with_props key pairs x own none = rw none own
 last_left : (pairs : List (ℕ × ℤ)) (ids : List ℕ) (id : ℕ) (value : ℤ) (before : Option ℤ) → before ≡ cond (is_listed ids id) None (last_value pairs id) → Some value ≡ before → (is_listed ids id ≡ false) × (last_value pairs id ≡ Some value)
 last_left pairs ids id value before was is =
     elim (cases_Bool (is_listed ids id)) [
-      inl listed ↦ let none : before ≡ None = rw listed at was in cc
-    | inr unlisted ↦ let there : before ≡ last_value pairs id = rw unlisted at was in (unlisted, cc)
+      | inl listed ↦ let none : before ≡ None = rw listed at was in cc
+      | inr unlisted ↦ let there : before ≡ last_value pairs id = rw unlisted at was in (unlisted, cc)
     ]
 
 -- what stands under an id has a value set
@@ -185,7 +185,7 @@ IsSetSoFar-again {A} id_of props_of with_props key pairs ids last before now add
 pub IsSetSoFar-all : {A : Type 0} (id_of : A → ℕ) (props_of : A → List Prop) (with_props : A → List Prop → A) (key : List ℕ) (pairs : List (ℕ × ℤ)) (last : ℕ → Option ℤ) (before now : List (Option A)) (added : ℕ) → ((x : A) → with_props x (props_of x) ≡ x) → IsSetSoFar id_of props_of with_props key pairs (map pair_id pairs) last before now added → now ≡ map (option_map (set_by id_of props_of with_props key pairs)) before
 IsSetSoFar-all id_of props_of with_props key pairs last before now added own so_far =
     so_far.edited ∙ edit-all id_of (set_by id_of props_of with_props key pairs) before (map pair_id pairs) (λ x unlisted.
-        set_by-unlisted id_of props_of with_props key pairs x (own x) (last_value-unlisted pairs (id_of x) unlisted))
+    set_by-unlisted id_of props_of with_props key pairs x (own x) (last_value-unlisted pairs (id_of x) unlisted))
 
 -- nothing is left of what goes
 option_and_then-gone : {A : Type 0} (slot : Option A) → option_and_then gone slot ≡ None

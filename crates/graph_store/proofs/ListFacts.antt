@@ -33,8 +33,8 @@ AllByRecursion-filter p P Q [] keeps all = tt
 AllByRecursion-filter p P Q (x ∷ xs) keeps all =
     let rest = AllByRecursion-filter p P Q xs keeps all.1 in
     let cases : (b : Bool) → p x ≡ b → AllByRecursion Q (cond b (x ∷ filter p xs) (filter p xs)) =
-        λ b. elim b as (λ v. p x ≡ v → AllByRecursion Q (cond v (x ∷ filter p xs) (filter p xs)))
-        [ true ↦ λ passes. (keeps x all.0 passes, rest) | false ↦ λ fails. rest ] in
+    λ b. elim b as (λ v. p x ≡ v → AllByRecursion Q (cond v (x ∷ filter p xs) (filter p xs)))
+    [ true ↦ λ passes. (keeps x all.0 passes, rest) | false ↦ λ fails. rest ] in
     cases (p x) refl
 
 pub Pairwise-map : {A B : Type 0} (R : A → A → Type 0) (S : B → B → Type 0) (f : A → B) (xs : List A) → ((x y : A) → R x y → S (f x) (f y)) → Pairwise R xs → Pairwise S (map f xs)
@@ -45,8 +45,8 @@ pub Pairwise-filter : {A : Type 0} (R : A → A → Type 0) (p : A → Bool) (xs
 Pairwise-filter R p [] all = tt
 Pairwise-filter R p (x ∷ xs) all =
     elim (p x) as (λ b. Pairwise R (cond b (x ∷ filter p xs) (filter p xs))) [
-      true ↦ (AllByRecursion-filter p (R x) (R x) xs (λ y related passes. related) all.0, Pairwise-filter R p xs all.1)
-    | false ↦ Pairwise-filter R p xs all.1
+      | true ↦ (AllByRecursion-filter p (R x) (R x) xs (λ y related passes. related) all.0, Pairwise-filter R p xs all.1)
+      | false ↦ Pairwise-filter R p xs all.1
     ]
 
 pub Pairwise-++ : {A : Type 0} (R : A → A → Type 0) (P : A → Type 0) (xs ys : List A) → Pairwise R xs → Pairwise R ys → AllByRecursion P xs → ((x : A) → P x → AllByRecursion (R x) ys) → Pairwise R (xs ++ ys)

@@ -44,7 +44,7 @@ IsPlaced-more {A} id_of next elements rest slots x placed =
     let len : length filled ≡ id_of x = length-filled slots (id_of x) placed.above.0 in
     let longer : length (filled ++ Some x ∷ []) ≡ id_of x + 1 = omega (arith, length_push filled (Some x)) in
     let lives : living (filled ++ Some x ∷ []) ≡ living slots ++ x ∷ [] =
-        living-++ filled (Some x ∷ []) ∙ ap (λ (front : List A). front ++ x ∷ []) (living-filled slots (id_of x - length slots)) in
+    living-++ filled (Some x ∷ []) ∙ ap (λ (front : List A). front ++ x ∷ []) (living-filled slots (id_of x - length slots)) in
     record {
       all = rw lives (append_assoc (living slots) (x ∷ []) rest ∙ placed.all);
       numbered = IsNumbered-++ id_of filled (Some x ∷ []) 0 (id_of x) (IsNumbered-filled id_of slots (id_of x - length slots) placed.numbered) (omega arith) (refl, tt);

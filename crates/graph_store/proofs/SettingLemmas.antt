@@ -62,8 +62,9 @@ last_value_more pairs row default value before after id within same was now =
     let pair = get_or pairs row default in
     rw (take_more pairs row default within, last_value-push (take row pairs) pair id)
     (elim (cases_Bool (eqb pair.0 id)) [
-      inl here ↦ rw here (rw (is_at-nat pair.0 id ∙ here) at now ∙ ap Some same)
-    | inr apart ↦ rw apart (rw (is_at-nat pair.0 id ∙ apart) at now ∙ was) ])
+      | inl here ↦ rw here (rw (is_at-nat pair.0 id ∙ here) at now ∙ ap Some same)
+      | inr apart ↦ rw apart (rw (is_at-nat pair.0 id ∙ apart) at now ∙ was)
+    ])
 
 -- an id of no pair has none
 pub last_value-unlisted : (pairs : List (ℕ × ℤ)) (id : ℕ) → is_listed (map pair_id pairs) id ≡ false → last_value pairs id ≡ None

@@ -41,7 +41,6 @@ living_drop_more slots row within = ap living (drop_more slots row None within)
 pub slot_at-slice_get : {A : Type 0} (slots : List (Option A)) (id : ℕ) → slot_at slots id ≡ unwrap_or (slice_get slots id) None
 slot_at-slice_get slots id = sym (unwrap_or-slice_get slots id None)
 
-
 -- no element of these slots has an id below theirs
 pub find-below : {A : Type 0} (id_of : A → ℕ) (slots : List (Option A)) (first id : ℕ) → IsNumbered id_of first slots → id < first → find (λ x. eqb (id_of x) id) (living slots) ≡ None
 find-below id_of [] first id numbered below = refl
@@ -96,9 +95,10 @@ IsNumbered-map id_of f (Some x ∷ slots) first same numbered = (same x ∙ numb
 pub IsNumbered-kept : {A : Type 0} (id_of : A → ℕ) (p : A → Bool) (slots : List (Option A)) (first : ℕ) → IsNumbered id_of first slots → IsNumbered id_of first (map (kept p) slots)
 IsNumbered-kept id_of p [] first numbered = tt
 IsNumbered-kept id_of p (None ∷ slots) first numbered = (tt, IsNumbered-kept id_of p slots (first + 1) numbered.1)
-IsNumbered-kept id_of p (Some x ∷ slots) first numbered =
-    (elim (p x) as (λ b. IfSome (cond b (Some x) None) (λ y. id_of y ≡ first)) [ true ↦ numbered.0 | false ↦ tt ],
-    IsNumbered-kept id_of p slots (first + 1) numbered.1)
+IsNumbered-kept id_of p (Some x ∷ slots) first numbered = (
+  elim (p x) as (λ b. IfSome (cond b (Some x) None) (λ y. id_of y ≡ first)) [ true ↦ numbered.0 | false ↦ tt ],
+  IsNumbered-kept id_of p slots (first + 1) numbered.1,
+)
 
 -- what stands under an id has that id
 pub id-at : {A : Type 0} (id_of : A → ℕ) (slots : List (Option A)) (first place : ℕ) (x : A) → IsNumbered id_of first slots → slot_at slots place ≡ Some x → id_of x ≡ first + place

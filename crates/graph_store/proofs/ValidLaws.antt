@@ -43,13 +43,13 @@ lives-kept : (ids : List ℕ) (nodes : List Node) (id : ℕ) → IsTrue (node_li
 lives-kept ids [] id lives unlisted = lives
 lives-kept ids (node ∷ nodes) id lives unlisted =
     elim (cases_eq node.id id) [
-      inl same ↦ let stays : is_listed ids node.id ≡ false = rw same unlisted in
-        rw stays (or_left (eqb node.id id) (node_lives (filter (keeps_node ids) nodes) id) (eq-eqb node.id id same))
-    | inr apart ↦ let differs : eqb node.id id ≡ false = ne_eqb node.id id apart in
-        let later : IsTrue (node_lives nodes id) = rw differs at lives in
-        let rest = lives-kept ids nodes id later unlisted in
-        elim (not (is_listed ids node.id)) as (λ b. IsTrue (node_lives (cond b (node ∷ filter (keeps_node ids) nodes) (filter (keeps_node ids) nodes)) id))
-        [ true ↦ or_right (eqb node.id id) (node_lives (filter (keeps_node ids) nodes) id) rest | false ↦ rest ]
+      | inl same ↦ let stays : is_listed ids node.id ≡ false = rw same unlisted in
+          rw stays (or_left (eqb node.id id) (node_lives (filter (keeps_node ids) nodes) id) (eq-eqb node.id id same))
+      | inr apart ↦ let differs : eqb node.id id ≡ false = ne_eqb node.id id apart in
+          let later : IsTrue (node_lives nodes id) = rw differs at lives in
+          let rest = lives-kept ids nodes id later unlisted in
+          elim (not (is_listed ids node.id)) as (λ b. IsTrue (node_lives (cond b (node ∷ filter (keeps_node ids) nodes) (filter (keeps_node ids) nodes)) id))
+          [ true ↦ or_right (eqb node.id id) (node_lives (filter (keeps_node ids) nodes) id) rest | false ↦ rest ]
     ]
 
 -- ---- values are set
@@ -61,9 +61,9 @@ nodes_set_valid g key pairs valid = record {
   node_ids = AllByRecursion-map (NodeBelow g.next_node) (NodeBelow g.next_node) (node_after key pairs) g.nodes (λ x below. below) valid.node_ids;
   rel_ids = valid.rel_ids;
   ends = AllByRecursion-weaker (EndsLive g.nodes) (EndsLive (map (node_after key pairs) g.nodes)) g.rels
-    (λ rel live. (list_any-map (is_node rel.source) (node_after key pairs) g.nodes ∙ live.0, list_any-map (is_node rel.target) (node_after key pairs) g.nodes ∙ live.1)) valid.ends;
+      (λ rel live. (list_any-map (is_node rel.source) (node_after key pairs) g.nodes ∙ live.0, list_any-map (is_node rel.target) (node_after key pairs) g.nodes ∙ live.1)) valid.ends;
   node_parts = AllByRecursion-map HasOrderedLabels HasOrderedLabels (node_after key pairs) g.nodes
-    (λ node parts. (parts.0, set_if_there_ascends key (last_value pairs node.id) node.props parts.1)) valid.node_parts;
+      (λ node parts. (parts.0, set_if_there_ascends key (last_value pairs node.id) node.props parts.1)) valid.node_parts;
   rel_parts = valid.rel_parts;
 }
 
@@ -76,7 +76,7 @@ rels_set_valid g key pairs valid = record {
   ends = AllByRecursion-map (EndsLive g.nodes) (EndsLive g.nodes) (rel_after key pairs) g.rels (λ rel live. live) valid.ends;
   node_parts = valid.node_parts;
   rel_parts = AllByRecursion-map HasOrderedKeys HasOrderedKeys (rel_after key pairs) g.rels
-    (λ rel parts. set_if_there_ascends key (last_value pairs rel.id) rel.props parts) valid.rel_parts;
+      (λ rel parts. set_if_there_ascends key (last_value pairs rel.id) rel.props parts) valid.rel_parts;
 }
 
 -- ---- elements go
@@ -93,7 +93,7 @@ nodes_deleted_valid g ids valid = record {
   node_ids = AllByRecursion-filter (keeps_node ids) (NodeBelow g.next_node) (NodeBelow g.next_node) g.nodes (λ x below passes. below) valid.node_ids;
   rel_ids = AllByRecursion-filter (keeps_ends ids) (RelBelow g.next_rel) (RelBelow g.next_rel) g.rels (λ x below passes. below) valid.rel_ids;
   ends = AllByRecursion-filter (keeps_ends ids) (EndsLive g.nodes) (EndsLive (filter (keeps_node ids) g.nodes)) g.rels
-    (λ rel live passes. let ends = not_listed (is_listed ids rel.source) (is_listed ids rel.target) passes in
+      (λ rel live passes. let ends = not_listed (is_listed ids rel.source) (is_listed ids rel.target) passes in
       (lives-kept ids g.nodes rel.source live.0 ends.0, lives-kept ids g.nodes rel.target live.1 ends.1)) valid.ends;
   node_parts = AllByRecursion-filter (keeps_node ids) HasOrderedLabels HasOrderedLabels g.nodes (λ x parts passes. parts) valid.node_parts;
   rel_parts = AllByRecursion-filter (keeps_ends ids) HasOrderedKeys HasOrderedKeys g.rels (λ x parts passes. parts) valid.rel_parts;
@@ -115,15 +115,17 @@ rels_deleted_valid g ids valid = record {
 -- the ids of new nodes lie between the counters before and after
 created_node_ids : (news : List NewNode) (first : ℕ) → AllByRecursion (λ node. (first ≤ node.id) × (node.id < first + length news)) (created_nodes first news)
 created_node_ids [] first = tt
-created_node_ids (new ∷ news) first =
-    ((omega arith, omega arith),
-    AllByRecursion-weaker _ _ (created_nodes (first + 1) news) (λ node within. (omega (arith, within.0), omega (arith, within.1))) (created_node_ids news (first + 1)))
+created_node_ids (new ∷ news) first = (
+  (omega arith, omega arith),
+  AllByRecursion-weaker _ _ (created_nodes (first + 1) news) (λ node within. (omega (arith, within.0), omega (arith, within.1))) (created_node_ids news (first + 1)),
+)
 
 created_rel_ids : (news : List NewRel) (nodes first : ℕ) → AllByRecursion (λ rel. (first ≤ rel.id) × (rel.id < first + length news)) (created_rels nodes first news)
 created_rel_ids [] nodes first = tt
-created_rel_ids (new ∷ news) nodes first =
-    ((omega arith, omega arith),
-    AllByRecursion-weaker _ _ (created_rels nodes (first + 1) news) (λ rel within. (omega (arith, within.0), omega (arith, within.1))) (created_rel_ids news nodes (first + 1)))
+created_rel_ids (new ∷ news) nodes first = (
+  (omega arith, omega arith),
+  AllByRecursion-weaker _ _ (created_rels nodes (first + 1) news) (λ rel within. (omega (arith, within.0), omega (arith, within.1))) (created_rel_ids news nodes (first + 1)),
+)
 
 -- and ascend
 created_nodes_ascend : (news : List NewNode) (first : ℕ) → Pairwise NodeBefore (created_nodes first news)
@@ -151,8 +153,8 @@ find-++ : {A : Type 0} (p : A → Bool) (xs ys : List A) → find p (xs ++ ys) �
 find-++ p [] ys none = (refl, none)
 find-++ {A} p (x ∷ xs) ys none =
     elim (cases_Bool (p x)) [
-      inl passes ↦ let found : ◌≡◌ {A = Option A} (Some x) None = rw passes at none in cc
-    | inr fails ↦ let rest : find p (xs ++ ys) ≡ None = rw fails at none in rw fails (find-++ p xs ys rest)
+      | inl passes ↦ let found : ◌≡◌ {A = Option A} (Some x) None = rw passes at none in cc
+      | inr fails ↦ let rest : find p (xs ++ ys) ≡ None = rw fails at none in rw fails (find-++ p xs ys rest)
     ]
 
 -- an id that isn't missing lives
@@ -171,9 +173,10 @@ created_ends : (nodes : List Node) (news : List NewNode) (rels : List NewRel) (f
 created_ends nodes news [] first next distinct found = tt
 created_ends nodes news (rel ∷ rels) first next distinct found =
     let parts = find-++ (node_missing nodes) (named_ends rel) (flat_map named_ends rels) found in
-    let ends = find-++ (node_missing nodes) (named_id rel.source) (named_id rel.target) parts.0 in
-    ((end_lives nodes news first rel.source distinct.0.0 ends.0, end_lives nodes news first rel.target distinct.0.1 ends.1),
-    created_ends nodes news rels first (next + 1) distinct.1 parts.1)
+    let ends = find-++ (node_missing nodes) (named_id rel.source) (named_id rel.target) parts.0 in (
+      (end_lives nodes news first rel.source distinct.0.0 ends.0, end_lives nodes news first rel.target distinct.0.1 ends.1),
+      created_ends nodes news rels first (next + 1) distinct.1 parts.1,
+    )
 
 created_valid : (g : PropertyGraph) (nodes : List NewNode) (rels : List NewRel) → IsValidGraph g → IsWellFormedChange (Create nodes rels) → find (node_missing g.nodes) (flat_map named_ends rels) ≡ None → IsValidGraph (after_change g (Create nodes rels))
 created_valid g nodes rels valid formed found =
@@ -181,16 +184,16 @@ created_valid g nodes rels valid formed found =
     let rel_ids = created_rel_ids rels g.next_node g.next_rel in
     record {
       nodes_ascend = Pairwise-++ NodeBefore (NodeBelow g.next_node) g.nodes (created_nodes g.next_node nodes) valid.nodes_ascend (created_nodes_ascend nodes g.next_node) valid.node_ids
-        (λ x below. AllByRecursion-weaker _ (NodeBefore x) (created_nodes g.next_node nodes) (λ y within. omega (arith, within, below)) node_ids);
+          (λ x below. AllByRecursion-weaker _ (NodeBefore x) (created_nodes g.next_node nodes) (λ y within. omega (arith, within, below)) node_ids);
       rels_ascend = Pairwise-++ RelBefore (RelBelow g.next_rel) g.rels (created_rels g.next_node g.next_rel rels) valid.rels_ascend (created_rels_ascend rels g.next_node g.next_rel) valid.rel_ids
-        (λ x below. AllByRecursion-weaker _ (RelBefore x) (created_rels g.next_node g.next_rel rels) (λ y within. omega (arith, within, below)) rel_ids);
+          (λ x below. AllByRecursion-weaker _ (RelBefore x) (created_rels g.next_node g.next_rel rels) (λ y within. omega (arith, within, below)) rel_ids);
       node_ids = AllByRecursion-++ (NodeBelow (g.next_node + length nodes)) g.nodes (created_nodes g.next_node nodes)
-        (AllByRecursion-weaker _ _ g.nodes (λ x below. omega (arith, below)) valid.node_ids) (AllByRecursion-weaker _ _ (created_nodes g.next_node nodes) (λ x within. within.1) node_ids);
+          (AllByRecursion-weaker _ _ g.nodes (λ x below. omega (arith, below)) valid.node_ids) (AllByRecursion-weaker _ _ (created_nodes g.next_node nodes) (λ x within. within.1) node_ids);
       rel_ids = AllByRecursion-++ (RelBelow (g.next_rel + length rels)) g.rels (created_rels g.next_node g.next_rel rels)
-        (AllByRecursion-weaker _ _ g.rels (λ x below. omega (arith, below)) valid.rel_ids) (AllByRecursion-weaker _ _ (created_rels g.next_node g.next_rel rels) (λ x within. within.1) rel_ids);
+          (AllByRecursion-weaker _ _ g.rels (λ x below. omega (arith, below)) valid.rel_ids) (AllByRecursion-weaker _ _ (created_rels g.next_node g.next_rel rels) (λ x within. within.1) rel_ids);
       ends = AllByRecursion-++ (EndsLive (g.nodes ++ created_nodes g.next_node nodes)) g.rels (created_rels g.next_node g.next_rel rels)
-        (AllByRecursion-weaker _ _ g.rels (λ rel live. (lives-++ g.nodes (created_nodes g.next_node nodes) rel.source live.0, lives-++ g.nodes (created_nodes g.next_node nodes) rel.target live.1)) valid.ends)
-        (created_ends g.nodes nodes rels g.next_node g.next_rel formed.1 found);
+          (AllByRecursion-weaker _ _ g.rels (λ rel live. (lives-++ g.nodes (created_nodes g.next_node nodes) rel.source live.0, lives-++ g.nodes (created_nodes g.next_node nodes) rel.target live.1)) valid.ends)
+          (created_ends g.nodes nodes rels g.next_node g.next_rel formed.1 found);
       node_parts = AllByRecursion-++ HasOrderedLabels g.nodes (created_nodes g.next_node nodes) valid.node_parts (created_node_parts nodes g.next_node formed.0);
       rel_parts = AllByRecursion-++ HasOrderedKeys g.rels (created_rels g.next_node g.next_rel rels) valid.rel_parts (created_rel_parts (length nodes) rels g.next_node g.next_rel formed.1);
     }
@@ -210,8 +213,8 @@ none_mapped f (Some x) none = cc
 pub not_over : (which : Quantity) (limit count : ℕ) → over_limit which limit count ≡ None → count ≤ limit
 not_over which limit count none =
     elim (cases_Bool (ltb limit count)) [
-      inl over ↦ let full : Some (Full which limit 0) ≡ None = rw over at none in cc
-    | inr within ↦ ltb-false limit count within
+      | inl over ↦ let full : Some (Full which limit 0) ≡ None = rw over at none in cc
+      | inr within ↦ ltb-false limit count within
     ]
 
 -- a valid graph is valid after a change that is allowed
@@ -232,7 +235,7 @@ after_within g c allowed =
     let after = after_change g c in
     let limits = (allowed_parts (missing_entity g c) (over_limits after) allowed).1 in
     let nodes = allowed_parts (over_limit quantity.Nodes most_nodes after.next_node)
-        (first_there (over_limit quantity.Rels most_rels after.next_rel) (over_limit quantity.Values most_values (value_count after))) limits in
+    (first_there (over_limit quantity.Rels most_rels after.next_rel) (over_limit quantity.Values most_values (value_count after))) limits in
     let rels = allowed_parts (over_limit quantity.Rels most_rels after.next_rel) (over_limit quantity.Values most_values (value_count after)) nodes.1 in
     record {
       nodes = not_over quantity.Nodes most_nodes after.next_node nodes.0;

@@ -18,5 +18,5 @@ created_rel first id new = record {
   source = place_id first new.source;
   target = place_id first new.target;
   kind = new.kind;
-  props = in_order key_before new.props
+  props = in_order key_before new.props;
 }

@@ -31,4 +31,4 @@ IsMadeBy g change after = (after ≡ after_change g change) × (refused_change g
 abbrev pub over_limits_with : PropertyGraph → List NewNode → List NewRel → Option Refusal
 over_limits_with g nodes rels = first_there (over_limit quantity.Nodes most_nodes (g.next_node + length nodes))
     (first_there (over_limit quantity.Rels most_rels (g.next_rel + length rels))
-      (over_limit quantity.Values most_values (value_count g + (sum_by new_node_values nodes + sum_by new_rel_values rels))))
+    (over_limit quantity.Values most_values (value_count g + (sum_by new_node_values nodes + sum_by new_rel_values rels))))

@@ -10,14 +10,14 @@ use crate::creating::{with_nodes, with_rels};
 use crate::deleting::{without, without_loose};
 use crate::setting::with_values;
 use crate::store::{Prepared, Store};
-use graph_model::{
-    Change, EntityKind, List, Name, NewNode, NewRel, Quantity, Refusal, TryClone,
-};
+use graph_model::{Change, EntityKind, List, Name, NewNode, NewRel, Quantity, Refusal, TryClone};
 use std::alloc::Global;
 use std::snapshot::Snapshot as Before;
 
 const MOST_NODES: u64 = 4_194_304;
+
 const MOST_RELS: u64 = 16_777_216;
+
 const MOST_VALUES: u64 = 33_554_432;
 
 /// A limit would be passed.

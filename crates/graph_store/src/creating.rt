@@ -21,11 +21,7 @@ fn create_node(alloc: Global, id: u32, new: &NewNode) -> Result<Slot<Node>, Mem>
 }
 
 /// New nodes behind the others.
-fn create_nodes(
-    slots: &mut Draft<Slot<Node>>,
-    alloc: Global,
-    news: &[NewNode],
-) -> Result<(), Mem>
+fn create_nodes(slots: &mut Draft<Slot<Node>>, alloc: Global, news: &[NewNode]) -> Result<(), Mem>
     requires distinct { AllByRecursion IsDistinctNode news.now }
     requires few { length slots.old + length news.now ≤ 2 ^ 32 }
     ensures { OnOk result (slots.new ≡ slots.old ++ map Some (created_nodes (length slots.old) news.now)) }
@@ -50,7 +46,13 @@ fn place_id(first: u32, count: u32, place: Place) -> u32
 }
 
 /// A new relationship, as it lives, where the `count` new nodes have their ids from `first` on.
-fn create_rel(alloc: Global, first: u32, count: u32, id: u32, new: &NewRel) -> Result<Slot<Rel>, Mem>
+fn create_rel(
+    alloc: Global,
+    first: u32,
+    count: u32,
+    id: u32,
+    new: &NewRel,
+) -> Result<Slot<Rel>, Mem>
     requires distinct { IsDistinctRel count new.now }
     requires fits { first + count ≤ 2 ^ 32 }
     ensures { IfOk result (λ slot. slot ≡ Some (created_rel first id new.now)) }

@@ -79,10 +79,7 @@ pub(crate) fn value_count<E: Element>(elements: &List<E>) -> u64
 
 /// The ids of what lives, ascending.
 #[tactic(auto, using(crate::proofs::SlotLemmas::living_drop_more))]
-pub(crate) fn live_ids<E: Element>(
-    slots: &Table<Slot<E>>,
-    alloc: Global,
-) -> Result<List<u32>, Mem>
+pub(crate) fn live_ids<E: Element>(slots: &Table<Slot<E>>, alloc: Global) -> Result<List<u32>, Mem>
     ensures { IfOk result (λ ids. ids ≡ map E.id_of (living slots.now)) }
 {
     let mut ids = List::new(alloc);

@@ -12,5 +12,7 @@ loop-id-preserved g c =
     let ids = c.args.ids.now in
     let row = c.loop-id.id-index in
     let more : take (row + 1) ids ≡ take row ids ++ get_or ids row 0 ∷ [] = take_more ids row 0 c.loop-id-test.true in
-    rw more (rw (c.in_ok-removed.ensures.removed, c.loop-id.invariant.0) (edit-gone_more g.E.Element.id_of c.args.slots.now (take row ids) (get_or ids row 0) c.requires.numbered),
-    omega (arith, c.loop-id.invariant.1, c.in_ok-removed.ensures.counted))
+    rw more (
+      rw (c.in_ok-removed.ensures.removed, c.loop-id.invariant.0) (edit-gone_more g.E.Element.id_of c.args.slots.now (take row ids) (get_or ids row 0) c.requires.numbered),
+      omega (arith, c.loop-id.invariant.1, c.in_ok-removed.ensures.counted),
+    )

@@ -8,6 +8,7 @@ pub loop-row-preserved : goal.loop-row-preserved
 loop-row-preserved c =
     let rels = c.args.rels.now in
     let f = kept (ends_live c.args.nodes.now) in
-    let same = get_or-front f rels c.loop-row.row None (omega arith) in
-    (rw (c.in_ok-removed.ensures.removed, c.loop-row.invariant.0, same) (set-front f rels c.loop-row.row None (omega arith)),
-    omega (arith, c.loop-row.invariant.1, c.in_ok-removed.ensures.counted))
+    let same = get_or-front f rels c.loop-row.row None (omega arith) in (
+      rw (c.in_ok-removed.ensures.removed, c.loop-row.invariant.0, same) (set-front f rels c.loop-row.row None (omega arith)),
+      omega (arith, c.loop-row.invariant.1, c.in_ok-removed.ensures.counted),
+    )

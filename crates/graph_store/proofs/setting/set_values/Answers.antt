@@ -10,9 +10,10 @@ use Rattle.graph_store.proofs.setting.set_values.Goals as goal
 use Rattle.graph_store.proofs.setting.set_values.Goals.{in-Some+in_ok-added, in_default}
 
 pub loop-id-init : goal.loop-id-init
-loop-id-init g c =
-    (IsSetSoFar-none g.E.Element.id_of g.E.Element.props_of g.E.Element.with_props_of c.args.key.now c.args.pairs.now (get nat_cmp c.in_ok-last.last) c.args.slots.now c.in_ok-last.ensures,
-    omega arith)
+loop-id-init g c = (
+  IsSetSoFar-none g.E.Element.id_of g.E.Element.props_of g.E.Element.with_props_of c.args.key.now c.args.pairs.now (get nat_cmp c.in_ok-last.last) c.args.slots.now c.in_ok-last.ensures,
+  omega arith,
+)
 
 pub loop-id-preserved : goal.loop-id-preserved
 loop-id-preserved g c =
@@ -28,14 +29,16 @@ loop-id-preserved g c =
     let last = get nat_cmp c.loop-id.last in
     let left = get nat_cmp c.remove.new.self in
     elim c.match-remove.branch [
-      in-Some+in_ok-added w ↦ rw (more, w.slots-is, w.added-is)
-        (IsSetSoFar-more id_of props_of with_props c.args.key.now pairs ids last before c.loop-id.slots c.loop-id.added pair.0 w.in-Some.value left w.set_value.new.slots w.in_ok-added.field-0
-        c.requires c.loop-id.invariant.0 (sym w.in-Some.is ∙ c.remove.ensures.value) (λ other. c.remove.ensures.updates.0 other) (let same = to_z-of_z w64 w.in-Some.value (search rules) in rw same at w.in_ok-added.ensures.set) w.in_ok-added.ensures.added,
-        omega (arith, w.in_ok-added.ensures.few))
-    | in_default w ↦ rw (more, w.slots-is, w.added-is)
-        (IsSetSoFar-again id_of props_of with_props c.args.key.now pairs ids last before c.loop-id.slots c.loop-id.added pair.0 left
-        g.met.E.Element.own_props c.loop-id.invariant.0 (sym w.in_default.is ∙ c.remove.ensures.value) (λ other. c.remove.ensures.updates.0 other),
-        omega arith)
+      | in-Some+in_ok-added w ↦ rw (more, w.slots-is, w.added-is) (
+        IsSetSoFar-more id_of props_of with_props c.args.key.now pairs ids last before c.loop-id.slots c.loop-id.added pair.0 w.in-Some.value left w.set_value.new.slots w.in_ok-added.field-0
+            c.requires c.loop-id.invariant.0 (sym w.in-Some.is ∙ c.remove.ensures.value) (λ other. c.remove.ensures.updates.0 other) (let same = to_z-of_z w64 w.in-Some.value (search rules) in rw same at w.in_ok-added.ensures.set) w.in_ok-added.ensures.added,
+        omega (arith, w.in_ok-added.ensures.few),
+      )
+      | in_default w ↦ rw (more, w.slots-is, w.added-is) (
+        IsSetSoFar-again id_of props_of with_props c.args.key.now pairs ids last before c.loop-id.slots c.loop-id.added pair.0 left
+            g.met.E.Element.own_props c.loop-id.invariant.0 (sym w.in_default.is ∙ c.remove.ensures.value) (λ other. c.remove.ensures.updates.0 other),
+        omega arith,
+      )
     ]
 
 pub returns-clause-set : goal.returns-clause-set

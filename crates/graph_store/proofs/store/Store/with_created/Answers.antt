@@ -25,10 +25,10 @@ pub invariant_of-result : goal.invariant_of-result
 invariant_of-result c =
     let found : find (is_dead c.self.inside.nodes) (flat_map named_ends c.args.rels.now) ≡ None = rw c.as_slice.ensures.value at (sym c.missing_end.ensures ∙ c.in_default.is) in
     (created_made c.self.inside.nodes c.self.inside.rels c.self.inside.values c.args.self.now c.args.nodes.now c.args.rels.now c.in_ok-nodes.nodes c.in_ok-rels.rels c.in_ok-values.values
-      c.self.invariant c.self.view_is c.requires found c.in_ok-nodes.ensures (rw c.len-first.ensures at c.in_ok-rels.ensures) c.in_ok-values.ensures.ok).0
+    c.self.invariant c.self.view_is c.requires found c.in_ok-nodes.ensures (rw c.len-first.ensures at c.in_ok-rels.ensures) c.in_ok-values.ensures.ok).0
 
 pub returns-clause-ok : goal.returns-clause-ok
 returns-clause-ok c =
     let found : find (is_dead c.self.inside.nodes) (flat_map named_ends c.args.rels.now) ≡ None = rw c.as_slice.ensures.value at (sym c.missing_end.ensures ∙ c.in_default.is) in
     (created_made c.self.inside.nodes c.self.inside.rels c.self.inside.values c.args.self.now c.args.nodes.now c.args.rels.now c.in_ok-nodes.nodes c.in_ok-rels.rels c.in_ok-values.values
-      c.self.invariant c.self.view_is c.requires found c.in_ok-nodes.ensures (rw c.len-first.ensures at c.in_ok-rels.ensures) c.in_ok-values.ensures.ok).1
+    c.self.invariant c.self.view_is c.requires found c.in_ok-nodes.ensures (rw c.len-first.ensures at c.in_ok-rels.ensures) c.in_ok-values.ensures.ok).1

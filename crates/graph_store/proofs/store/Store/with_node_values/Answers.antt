@@ -17,16 +17,16 @@ returns-in_err-values-clause-refused c =
     let set = c.in_ok-nodes.ensures in
     rw (p.1, p.2) (unless_mem c.in_err-values.field-0.0 (refused_change c.args.self.now (SetNodes c.args.key.now c.args.values.now) ≡ Some c.in_err-values.field-0.0)
     (nodes_set_refused c.self.inside.nodes c.self.inside.rels c.self.inside.values c.args.self.now c.args.key.now c.args.values.now c.in_ok-nodes.nodes c.in_ok-nodes.added
-      (record { sound = c.self.invariant; is = c.self.view_is; found = set.found; set = set.set; grown = set.added }) ∙ c.in_err-values.ensures.err))
+    (record { sound = c.self.invariant; is = c.self.view_is; found = set.found; set = set.set; grown = set.added }) ∙ c.in_err-values.ensures.err))
 
 pub invariant_of-result : goal.invariant_of-result
 invariant_of-result c =
     let set = c.in_ok-nodes.ensures in
     (nodes_set_made c.self.inside.nodes c.self.inside.rels c.self.inside.values c.args.self.now c.args.key.now c.args.values.now c.in_ok-nodes.nodes c.in_ok-nodes.added c.in_ok-values.values c.in_ok-rels.rels
-      (record { sound = c.self.invariant; is = c.self.view_is; found = set.found; set = set.set; grown = set.added }) c.in_ok-values.ensures.ok c.in_ok-rels.ensures).0
+    (record { sound = c.self.invariant; is = c.self.view_is; found = set.found; set = set.set; grown = set.added }) c.in_ok-values.ensures.ok c.in_ok-rels.ensures).0
 
 pub returns-clause-ok : goal.returns-clause-ok
 returns-clause-ok c =
     let set = c.in_ok-nodes.ensures in
     (nodes_set_made c.self.inside.nodes c.self.inside.rels c.self.inside.values c.args.self.now c.args.key.now c.args.values.now c.in_ok-nodes.nodes c.in_ok-nodes.added c.in_ok-values.values c.in_ok-rels.rels
-      (record { sound = c.self.invariant; is = c.self.view_is; found = set.found; set = set.set; grown = set.added }) c.in_ok-values.ensures.ok c.in_ok-rels.ensures).1
+    (record { sound = c.self.invariant; is = c.self.view_is; found = set.found; set = set.set; grown = set.added }) c.in_ok-values.ensures.ok c.in_ok-rels.ensures).1

@@ -17,16 +17,16 @@ returns-in_err-values-clause-refused c =
     let set = c.in_ok-rels.ensures in
     rw (p.1, p.2) (unless_mem c.in_err-values.field-0.0 (refused_change c.args.self.now (SetRels c.args.key.now c.args.values.now) ≡ Some c.in_err-values.field-0.0)
     (rels_set_refused c.self.inside.nodes c.self.inside.rels c.self.inside.values c.args.self.now c.args.key.now c.args.values.now c.in_ok-rels.rels c.in_ok-rels.added
-      (record { sound = c.self.invariant; is = c.self.view_is; found = set.found; set = set.set; grown = set.added }) ∙ c.in_err-values.ensures.err))
+    (record { sound = c.self.invariant; is = c.self.view_is; found = set.found; set = set.set; grown = set.added }) ∙ c.in_err-values.ensures.err))
 
 pub invariant_of-result : goal.invariant_of-result
 invariant_of-result c =
     let set = c.in_ok-rels.ensures in
     (rels_set_made c.self.inside.nodes c.self.inside.rels c.self.inside.values c.args.self.now c.args.key.now c.args.values.now c.in_ok-rels.rels c.in_ok-rels.added c.in_ok-values.values c.in_ok-nodes.nodes
-      (record { sound = c.self.invariant; is = c.self.view_is; found = set.found; set = set.set; grown = set.added }) c.in_ok-values.ensures.ok c.in_ok-nodes.ensures).0
+    (record { sound = c.self.invariant; is = c.self.view_is; found = set.found; set = set.set; grown = set.added }) c.in_ok-values.ensures.ok c.in_ok-nodes.ensures).0
 
 pub returns-clause-ok : goal.returns-clause-ok
 returns-clause-ok c =
     let set = c.in_ok-rels.ensures in
     (rels_set_made c.self.inside.nodes c.self.inside.rels c.self.inside.values c.args.self.now c.args.key.now c.args.values.now c.in_ok-rels.rels c.in_ok-rels.added c.in_ok-values.values c.in_ok-nodes.nodes
-      (record { sound = c.self.invariant; is = c.self.view_is; found = set.found; set = set.set; grown = set.added }) c.in_ok-values.ensures.ok c.in_ok-nodes.ensures).1
+    (record { sound = c.self.invariant; is = c.self.view_is; found = set.found; set = set.set; grown = set.added }) c.in_ok-values.ensures.ok c.in_ok-nodes.ensures).1

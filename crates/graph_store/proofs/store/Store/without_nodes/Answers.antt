@@ -33,11 +33,11 @@ invariant_of-result c =
     let nodes = c.in_ok-draft.ensures in let rels = c.in_ok-rels.ensures in
     rw c.in_ok-nodes.ensures
     (nodes_gone_made c.self.inside.nodes c.self.inside.rels c.self.inside.values c.args.self.now c.args.ids.now c.in_ok-draft.draft c.in_ok-rels.rels c.in_ok-draft.node_values c.in_ok-rels.rel_values
-      (record { sound = c.self.invariant; is = c.self.view_is; found = nodes.found; nodes_gone = nodes.removed; rels_gone = rels.removed; node_count = nodes.counted; rel_count = rels.counted })).0
+    (record { sound = c.self.invariant; is = c.self.view_is; found = nodes.found; nodes_gone = nodes.removed; rels_gone = rels.removed; node_count = nodes.counted; rel_count = rels.counted })).0
 
 pub returns-clause-ok : goal.returns-clause-ok
 returns-clause-ok c =
     let nodes = c.in_ok-draft.ensures in let rels = c.in_ok-rels.ensures in
     rw c.in_ok-nodes.ensures
     (nodes_gone_made c.self.inside.nodes c.self.inside.rels c.self.inside.values c.args.self.now c.args.ids.now c.in_ok-draft.draft c.in_ok-rels.rels c.in_ok-draft.node_values c.in_ok-rels.rel_values
-      (record { sound = c.self.invariant; is = c.self.view_is; found = nodes.found; nodes_gone = nodes.removed; rels_gone = rels.removed; node_count = nodes.counted; rel_count = rels.counted })).1
+    (record { sound = c.self.invariant; is = c.self.view_is; found = nodes.found; nodes_gone = nodes.removed; rels_gone = rels.removed; node_count = nodes.counted; rel_count = rels.counted })).1

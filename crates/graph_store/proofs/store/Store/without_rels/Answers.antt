@@ -23,10 +23,10 @@ pub invariant_of-result : goal.invariant_of-result
 invariant_of-result c =
     let gone = c.in_ok-draft.ensures in
     (rels_gone_made c.self.inside.nodes c.self.inside.rels c.self.inside.values c.args.self.now c.args.ids.now c.in_ok-rels.rels c.in_ok-draft.rel_values c.in_ok-nodes.nodes
-      (record { sound = c.self.invariant; is = c.self.view_is; found = gone.found; gone = c.in_ok-rels.ensures ∙ gone.removed; counted = rw c.in_ok-rels.ensures gone.counted }) c.in_ok-nodes.ensures).0
+    (record { sound = c.self.invariant; is = c.self.view_is; found = gone.found; gone = c.in_ok-rels.ensures ∙ gone.removed; counted = rw c.in_ok-rels.ensures gone.counted }) c.in_ok-nodes.ensures).0
 
 pub returns-clause-ok : goal.returns-clause-ok
 returns-clause-ok c =
     let gone = c.in_ok-draft.ensures in
     (rels_gone_made c.self.inside.nodes c.self.inside.rels c.self.inside.values c.args.self.now c.args.ids.now c.in_ok-rels.rels c.in_ok-draft.rel_values c.in_ok-nodes.nodes
-      (record { sound = c.self.invariant; is = c.self.view_is; found = gone.found; gone = c.in_ok-rels.ensures ∙ gone.removed; counted = rw c.in_ok-rels.ensures gone.counted }) c.in_ok-nodes.ensures).1
+    (record { sound = c.self.invariant; is = c.self.view_is; found = gone.found; gone = c.in_ok-rels.ensures ∙ gone.removed; counted = rw c.in_ok-rels.ensures gone.counted }) c.in_ok-nodes.ensures).1
