@@ -48,13 +48,17 @@ if [ -w /dev/full ]; then
 fi
 
 # As many relationships as there may be, and one more.
-{
-  echo 'nodes 1'
-  yes 'rel 0 0' | head -n 16777216
-} >"$work/most"
-expect "as many relationships as there may be" 0 '0 16777216\n' '' once degree <"$work/most"
-echo 'rel 0 0' >>"$work/most"
-expect "one relationship too many" 3 '' 'gds: bad input at line 16777218\n' once degree <"$work/most"
+if command -v yes >/dev/null 2>&1; then
+  {
+    echo 'nodes 1'
+    yes 'rel 0 0' | head -n 16777216
+  } >"$work/most"
+  expect "as many relationships as there may be" 0 '0 16777216\n' '' once degree <"$work/most"
+  echo 'rel 0 0' >>"$work/most"
+  expect "one relationship too many" 3 '' 'gds: bad input at line 16777218\n' once degree <"$work/most"
+else
+  echo "program check: the limits are skipped, since there is no yes"
+fi
 
 echo "program check: $passed passed, $failed failed"
 [ "$failed" = 0 ]
