@@ -1,8 +1,10 @@
 -- The lines of rows of arcs are those of the degrees.
-use Rattle.std.proofs.Common.{◌≡◌, ℕ, zero, suc, ◌+◌, List, [], ◌∷◌, ◌++◌, map, filter, count_by, length, refl, ap, ap₂, sym, ◌∙◌}
+use Rattle.std.proofs.Common.{◌≡◌, ℕ, zero, suc, ◌+◌, List, [], ◌∷◌, ◌++◌, map, filter, count_by, cond, length, refl, ap, ap₂, sym, ◌∙◌}
 use Rattle.std.proofs.lemmas.List.{length-map}
 use Rattle.std.proofs.lemmas.List.Sums.{length-filter}
 use Rattle.std.specs.List.{flat_map, range_with_len}
+use Rattle.std.specs.List.Sorted.{IsPermutation}
+use Rattle.std.proofs.lemmas.List.Sorted.{sum_by-IsPermutation}
 use Rattle.graph_model.specs.Arcs.{leaves, targets_of, degree_of}
 use Rattle.csr_columns.specs.Rows.{rows_of}
 use Rattle.gds_session.specs.OnceText.{degree_line, degree_lines}
@@ -22,3 +24,18 @@ lines_of_rows-range arcs v (suc n) =
 -- the lines of all rows are those of all degrees
 pub lines_of_rows-rows_of : (n : ℕ) (arcs : List (ℕ × ℕ)) → lines_of_rows 0 (rows_of n arcs) ≡ degree_lines n arcs
 lines_of_rows-rows_of n arcs = lines_of_rows-range arcs 0 n
+
+-- the order of arcs doesn't matter to degrees
+degree_of-permutation : (arcs sorted : List (ℕ × ℕ)) (v : ℕ) → IsPermutation arcs sorted → degree_of sorted v ≡ degree_of arcs v
+degree_of-permutation arcs sorted v moved = sum_by-IsPermutation (λ arc. cond (leaves v arc) 1 0) arcs sorted moved
+
+degree_lines-some : (arcs sorted : List (ℕ × ℕ)) (vs : List ℕ) → IsPermutation arcs sorted
+    → flat_map (degree_line sorted) vs ≡ flat_map (degree_line arcs) vs
+degree_lines-some arcs sorted [] moved = refl
+degree_lines-some arcs sorted (v ∷ vs) moved =
+    ap₂ ◌++◌ (ap (line_of_degree v) (degree_of-permutation arcs sorted v moved)) (degree_lines-some arcs sorted vs moved)
+
+-- nor to the lines of the rows
+pub lines_of_rows-permutation : (n : ℕ) (arcs sorted : List (ℕ × ℕ)) → IsPermutation arcs sorted
+    → lines_of_rows 0 (rows_of n sorted) ≡ degree_lines n arcs
+lines_of_rows-permutation n arcs sorted moved = lines_of_rows-rows_of n sorted ∙ degree_lines-some arcs sorted (range_with_len 0 n) moved

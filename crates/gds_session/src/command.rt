@@ -42,10 +42,13 @@ fn write_input<W: Sink>(alloc: Global, input: Input, sink: &mut W) -> Result<(),
     ensures fault { result ≡ Err WriteStop.Fault → Rose (W.faults sink.old) (W.faults sink.new) }
     ensures later { W.faults sink.old ≤ W.faults sink.new }
 {
-    let Ok(csr) = Csr::by_source(alloc, input.nodes, &input.arcs) else {
+    let Input { nodes, mut arcs } = input;
+    // In order, so that the rows are filled one after another and not all over memory.
+    arcs.sort_unstable();
+    let Ok(csr) = Csr::by_source(alloc, nodes, &arcs) else {
         return Err(WriteStop::OutOfMemory);
     };
-    drop(input);
+    drop(arcs);
     write_degrees(alloc, &csr, sink)
 }
 
