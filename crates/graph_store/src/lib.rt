@@ -9,6 +9,7 @@ mod checks;
 mod creating;
 mod deleting;
 mod element;
+mod leaf;
 mod ordering;
 mod setting;
 mod slot;
