@@ -1,9 +1,9 @@
 -- What becomes of the slots is what becomes of the graph.
-use Rattle.std.proofs.Common.{◌≡◌, ℕ, ℤ, ◌+◌, ◌-◌, ◌<◌, ◌≤◌, Bool, cond, eqb, not, List, [], ◌∷◌, ◌++◌, length, map, sum_by, Option, Some, None, is_some, refl, suc, zero, true, false, inl, inr, sym, ◌∙◌, ap, subst, arith}
+use Rattle.std.proofs.Common.{◌≡◌, ℕ, ℤ, ◌+◌, ◌-◌, ◌≤◌, Bool, cond, not, List, [], ◌∷◌, ◌++◌, length, map, sum_by, Option, Some, None, is_some, refl, suc, zero, true, false, inl, inr, sym, ◌∙◌, ap, subst, arith}
 use Rattle.std.proofs.lemmas.Bool.{cases_Bool, le-ltb}
 use Rattle.std.specs.Option.{option_map}
 use Rattle.std.specs.Prelude.{IsTrue}
-use Rattle.std.specs.List.{AllByRecursion, find, filter, flat_map, list_any}
+use Rattle.std.specs.List.{AllByRecursion, find, filter, flat_map}
 use Rattle.std.proofs.lemmas.List.{length-append, length-map}
 use Rattle.std.proofs.lemmas.List.Sums.{sum_by-cons, sum_by-append}
 use Rattle.graph_model.specs.declared.graph.Node.{Node}
@@ -14,14 +14,14 @@ use Rattle.graph_model.specs.declared.change.NewRel.{NewRel}
 use Rattle.graph_model.specs.declared.change.Change.{Change}
 use Rattle.graph_model.specs.declared.change.Change.TheVariants.{Create, SetNodes, SetRels, DeleteNodes, DeleteRels}
 use Rattle.graph_model.specs.declared.refusal.Refusal.{Refusal}
-use Rattle.graph_model.specs.declared.refusal.Refusal.TheVariants.{NoSuchEntity, Full, Mem}
+use Rattle.graph_model.specs.declared.refusal.Refusal.TheVariants.{NoSuchEntity, Mem}
 use Rattle.graph_model.specs.Refusals.{UnlessMem}
 use Rattle.graph_model.specs.declared.refusal.EntityKind.TheVariants as kind
 use Rattle.graph_model.specs.declared.refusal.Quantity.{Quantity}
 use Rattle.graph_model.specs.declared.refusal.Quantity.TheVariants as quantity
 use Rattle.graph_model.specs.Lists.{first_there, insert_in_order, in_order}
-use Rattle.graph_model.specs.Graph.{most_nodes, most_rels, most_values, value_count, node_value_count, rel_value_count, node_lives, rel_lives, is_node, is_rel, EndsLive, IsValidGraph, IsWithinLimits}
-use Rattle.graph_model.specs.Change.{created_nodes, created_rels, named_ends, key_before, is_listed, pair_id, node_after, rel_after, keeps_node, keeps_ends, keeps_rel, after_change, named_nodes, named_rels, node_missing, rel_missing, missing_entity, over_limit, over_limits, refused_change, IsWellFormedChange}
+use Rattle.graph_model.specs.Graph.{most_nodes, most_rels, most_values, value_count, node_value_count, rel_value_count, node_lives, is_node, is_rel, EndsLive}
+use Rattle.graph_model.specs.Change.{created_nodes, created_rels, named_ends, key_before, is_listed, pair_id, node_after, rel_after, keeps_node, keeps_ends, after_change, named_nodes, named_rels, node_missing, rel_missing, over_limit, refused_change, IsWellFormedChange}
 use Rattle.graph_store.specs.Slots.{slot_at, living, IsNumbered, kept, slot_count}
 use Rattle.graph_store.specs.Stored.{node_id, rel_id, graph_of, IsSound}
 use Rattle.graph_store.specs.Missing.{is_dead, IsMadeBy, new_node_values, new_rel_values, over_limits_with}

@@ -1,12 +1,12 @@
 -- Slots that are edited, one id after another.
-use Rattle.std.proofs.Common.{◌≡◌, ◌≢◌, ℕ, ℤ, ◌+◌, ◌<◌, ◌≤◌, Bool, true, false, cond, not, eqb, List, [], ◌∷◌, ◌++◌, length, map, set, sum_by, get_or, Option, Some, None, refl, sym, ◌∙◌, ap, inl, inr, suc, zero, arith}
+use Rattle.std.proofs.Common.{◌≡◌, ◌≢◌, ℕ, ℤ, ◌+◌, true, false, cond, eqb, List, [], ◌∷◌, ◌++◌, length, map, set, sum_by, Option, Some, None, refl, sym, ◌∙◌, ap, inl, inr, suc, zero, arith}
 use Rattle.std.specs.Prelude.{option_and_then, ◌||◌}
 use Rattle.std.specs.Option.{option_map}
 use Rattle.std.specs.Ordering.{nat_cmp}
 use Rattle.std.specs.BTreeMap.{is_at}
 use Rattle.std.proofs.lemmas.Bool.{cases_Bool, cases_eq, eq-eqb, ne_eqb}
 use Rattle.graph_model.specs.declared.graph.Prop.{Prop}
-use Rattle.graph_model.specs.Change.{last_value, pair_id, is_listed, set_if_there}
+use Rattle.graph_model.specs.Change.{last_value, pair_id, is_listed}
 use Rattle.graph_store.specs.Slots.{slot_at, IsNumbered, kept, slot_count}
 use Rattle.graph_store.specs.Edits.{edit_slot, gone, is_unlisted, set_by, with_value}
 use Rattle.graph_store.proofs.BoolFacts.{or-false, or-true, or-assoc}

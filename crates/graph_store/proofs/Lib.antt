@@ -1,4 +1,5 @@
 pub mod BoolFacts
+pub mod Joining
 pub mod ListFacts
 pub mod SlotLemmas
 pub mod Placing

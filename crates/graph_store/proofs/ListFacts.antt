@@ -1,5 +1,5 @@
 -- What holds of each item of a list, or of each two, through `map`, `filter` and `++`.
-use Rattle.std.proofs.Common.{◌≡◌, ℕ, Bool, true, false, cond, ◌||◌, List, [], ◌∷◌, ◌++◌, map, refl, sym, ◌∙◌, ap}
+use Rattle.std.proofs.Common.{◌≡◌, Bool, true, false, cond, ◌||◌, List, [], ◌∷◌, ◌++◌, map, refl, ◌∙◌, ap}
 use Rattle.std.specs.List.{AllByRecursion, filter, list_any}
 use Rattle.graph_model.specs.Lists.{Pairwise}
 use Rattle.graph_store.proofs.BoolFacts.{or-assoc}

@@ -1,5 +1,5 @@
 -- Values that are set, and the last value of each id.
-use Rattle.std.proofs.Common.{◌≡◌, ◌≢◌, ℕ, ℤ, ◌+◌, ◌-◌, ◌<◌, ◌≤◌, take, get_or, Bool, true, false, cond, eqb, List, [], ◌∷◌, ◌++◌, length, map, set, sum_by, Option, Some, None, refl, sym, ◌∙◌, ap, suc, zero, inl, inr, arith}
+use Rattle.std.proofs.Common.{◌≡◌, ℕ, ℤ, ◌+◌, ◌-◌, ◌<◌, ◌≤◌, take, get_or, false, cond, eqb, List, [], ◌∷◌, ◌++◌, length, map, set, sum_by, Option, Some, None, refl, sym, ◌∙◌, ap, inl, inr, arith}
 use Rattle.std.specs.Ordering.{nat_cmp}
 use Rattle.std.specs.BTreeMap.{is_at}
 use Rattle.std.proofs.lemmas.List.{take_more}

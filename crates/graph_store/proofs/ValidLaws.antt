@@ -1,12 +1,10 @@
 -- A change that is allowed leaves a valid graph within the limits.
-use Rattle.std.proofs.Common.{◌≡◌, ◌≢◌, ℕ, ℤ, ◌+◌, ◌<◌, ◌≤◌, Bool, true, false, cond, eqb, ltb, not, ◌&&◌, ◌||◌, List, [], ◌∷◌, ◌++◌, length, map, Option, Some, None, refl, sym, ◌∙◌, ap, subst, suc, zero, inl, inr, arith}
+use Rattle.std.proofs.Common.{◌≡◌, ℕ, ℤ, ◌+◌, ◌<◌, ◌≤◌, Bool, true, false, cond, eqb, ltb, not, ◌&&◌, List, [], ◌∷◌, ◌++◌, length, map, Option, Some, None, refl, ◌∙◌, suc, zero, inl, inr, arith}
 use Rattle.std.specs.Prelude.{IsTrue}
 use Rattle.std.specs.Option.{option_map}
-use Rattle.std.specs.List.{AllByRecursion, filter, find, list_any, flat_map}
-use Rattle.std.proofs.lemmas.Bool.{cases_Bool, cases_eq, eq-eqb, ne_eqb, eqb-true, or_right, or_left, ltb-false}
+use Rattle.std.specs.List.{AllByRecursion, filter, find, flat_map}
+use Rattle.std.proofs.lemmas.Bool.{cases_Bool, cases_eq, eq-eqb, ne_eqb, or_right, or_left, ltb-false}
 use Rattle.graph_model.specs.declared.graph.Node.{Node}
-use Rattle.graph_model.specs.declared.graph.Rel.{Rel}
-use Rattle.graph_model.specs.declared.graph.Prop.{Prop}
 use Rattle.graph_model.specs.declared.graph.PropertyGraph.{PropertyGraph}
 use Rattle.graph_model.specs.declared.change.NewNode.{NewNode}
 use Rattle.graph_model.specs.declared.change.NewRel.{NewRel}
@@ -14,15 +12,14 @@ use Rattle.graph_model.specs.declared.change.Place.{Place}
 use Rattle.graph_model.specs.declared.change.Place.TheVariants.{Old, New}
 use Rattle.graph_model.specs.declared.change.Change.{Change}
 use Rattle.graph_model.specs.declared.change.Change.TheVariants.{Create, SetNodes, SetRels, DeleteNodes, DeleteRels}
-use Rattle.graph_model.specs.declared.refusal.Refusal.{Refusal}
 use Rattle.graph_model.specs.declared.refusal.Refusal.TheVariants.{NoSuchEntity, Full}
 use Rattle.graph_model.specs.declared.refusal.EntityKind.TheVariants as kind
 use Rattle.graph_model.specs.declared.refusal.Quantity.{Quantity}
 use Rattle.graph_model.specs.declared.refusal.Quantity.TheVariants as quantity
 use Rattle.graph_model.specs.Lists.{Pairwise, first_there}
 use Rattle.graph_model.specs.Graph.{most_nodes, most_rels, most_values, value_count, node_lives, is_node, NodeBefore, RelBefore, NodeBelow, RelBelow, EndsLive, HasOrderedLabels, HasOrderedKeys, IsValidGraph, IsWithinLimits}
-use Rattle.graph_model.specs.Change.{created_nodes, created_rels, place_id, node_after, rel_after, is_listed, keeps_node, keeps_ends, keeps_rel, after_change, named_id, named_ends, named_nodes, node_missing, missing_entity, over_limit, over_limits, refused_change, last_value, IsDistinctNode, IsDistinctRel, IsPlaceBelow, IsWellFormedChange}
-use Rattle.graph_store.proofs.ListFacts.{AllByRecursion-weaker, AllByRecursion-always, AllByRecursion-both, AllByRecursion-++, AllByRecursion-map, AllByRecursion-filter, Pairwise-map, Pairwise-filter, Pairwise-++, list_any-map, list_any-++}
+use Rattle.graph_model.specs.Change.{created_nodes, created_rels, place_id, node_after, rel_after, is_listed, keeps_node, keeps_ends, keeps_rel, after_change, named_id, named_ends, node_missing, missing_entity, over_limit, over_limits, refused_change, last_value, IsDistinctNode, IsDistinctRel, IsPlaceBelow, IsWellFormedChange}
+use Rattle.graph_store.proofs.ListFacts.{AllByRecursion-weaker, AllByRecursion-++, AllByRecursion-map, AllByRecursion-filter, Pairwise-map, Pairwise-filter, Pairwise-++, list_any-map, list_any-++}
 use Rattle.graph_store.proofs.ValidValues.{labels_ascend, props_ascend, set_if_there_ascends}
 
 -- ---- which nodes live

@@ -1,4 +1,5 @@
 -- How a store keeps its graph, and what it tells of it.
+pub mod Joined
 pub mod Missing
 pub mod Slots
 pub mod Created

@@ -1,6 +1,5 @@
 -- What a store tells of its graph.
 use Rattle.std.specs.Prelude.{ℕ, ◌==◌, Bool, List, map, filter}
-use Rattle.graph_model.specs.declared.graph.Node.{Node}
 use Rattle.graph_model.specs.declared.graph.Rel.{Rel}
 use Rattle.graph_model.specs.declared.graph.PropertyGraph.{PropertyGraph}
 use Rattle.graph_store.specs.Stored.{node_id, rel_id}

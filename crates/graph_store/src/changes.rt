@@ -91,9 +91,8 @@ impl Store {
         ensures ok { IfOk result (IsMadeBy self.now (Change.DeleteNodes ids.now)) }
         ensures refused { IfErr result (λ why. UnlessMem why (refused_change self.now (Change.DeleteNodes ids.now) ≡ Some why)) }
     {
-        let (draft, node_values) = without(&self.nodes, alloc, EntityKind::Node, ids)?;
-        let (rels, rel_values) = without_loose(&self.rels, alloc, &draft)?;
-        let nodes = draft.finish(alloc)?;
+        let (nodes, node_values) = without(&self.nodes, alloc, EntityKind::Node, ids)?;
+        let (rels, rel_values) = without_loose(&self.rels, alloc, &nodes)?;
         Ok(Store {
             nodes,
             rels,
@@ -106,8 +105,7 @@ impl Store {
         ensures ok { IfOk result (IsMadeBy self.now (Change.DeleteRels ids.now)) }
         ensures refused { IfErr result (λ why. UnlessMem why (refused_change self.now (Change.DeleteRels ids.now) ≡ Some why)) }
     {
-        let (draft, rel_values) = without(&self.rels, alloc, EntityKind::Rel, ids)?;
-        let rels = draft.finish(alloc)?;
+        let (rels, rel_values) = without(&self.rels, alloc, EntityKind::Rel, ids)?;
         let nodes = self.nodes.try_clone()?;
         Ok(Store {
             nodes,

@@ -6,7 +6,7 @@ ghost use Rattle.graph_store.specs.Created.{created_node, created_rel};
 
 use crate::ordering::{ordered_labels, ordered_props};
 use crate::slot::Slot;
-use crate::table::{Draft, Table};
+use crate::table::Table;
 use graph_model::{List, Mem, NewNode, NewRel, Node, Place, Rel, TryClone};
 use std::alloc::Global;
 
@@ -21,7 +21,7 @@ fn create_node(alloc: Global, id: u32, new: &NewNode) -> Result<Slot<Node>, Mem>
 }
 
 /// New nodes behind the others.
-fn create_nodes(slots: &mut Draft<Slot<Node>>, alloc: Global, news: &[NewNode]) -> Result<(), Mem>
+fn create_nodes(slots: &mut Table<Slot<Node>>, alloc: Global, news: &[NewNode]) -> Result<(), Mem>
     requires distinct { AllByRecursion IsDistinctNode news.now }
     requires few { length slots.old + length news.now ≤ 2 ^ 32 }
     ensures { OnOk result (slots.new ≡ slots.old ++ map Some (created_nodes (length slots.old) news.now)) }
@@ -75,7 +75,7 @@ fn create_rel(
 
 /// New relationships behind the others, where the `count` new nodes have their ids from `first` on.
 fn create_rels(
-    slots: &mut Draft<Slot<Rel>>,
+    slots: &mut Table<Slot<Rel>>,
     alloc: Global,
     first: u32,
     count: u32,
@@ -103,9 +103,9 @@ pub(crate) fn with_nodes(
     requires few { length slots.now + length news.now ≤ 2 ^ 32 }
     ensures { IfOk result (λ made. made ≡ slots.now ++ map Some (created_nodes (length slots.now) news.now)) }
 {
-    let mut draft = slots.edit(alloc)?;
+    let mut draft = slots.try_clone()?;
     create_nodes(&mut draft, alloc, news.as_slice())?;
-    draft.finish(alloc)
+    Ok(draft)
 }
 
 /// The slots with new relationships behind the others, where the `count` new nodes have their ids from `first` on.
@@ -121,7 +121,7 @@ pub(crate) fn with_rels(
     requires few { length slots.now + length news.now ≤ 2 ^ 32 }
     ensures { IfOk result (λ made. made ≡ slots.now ++ map Some (created_rels first (length slots.now) news.now)) }
 {
-    let mut draft = slots.edit(alloc)?;
+    let mut draft = slots.try_clone()?;
     create_rels(&mut draft, alloc, first, count, news.as_slice())?;
-    draft.finish(alloc)
+    Ok(draft)
 }

@@ -10,18 +10,18 @@ ghost use Rattle.graph_store.specs.Edits.{ends_live, is_unlisted};
 use crate::checks::missing_id;
 use crate::element::Element;
 use crate::slot::Slot;
-use crate::slots::draft_at;
-use crate::table::{Draft, Table};
-use graph_model::{EntityKind, List, Mem, Node, Refusal, Rel};
+use crate::slots::live_at;
+use crate::table::Table;
+use graph_model::{EntityKind, List, Mem, Node, Refusal, Rel, TryClone};
 use std::alloc::Global;
 
 /// Nothing lives under an id any more. It answers how many values went.
-fn remove<E: Element>(slots: &mut Draft<Slot<E>>, alloc: Global, id: usize) -> Result<u64, Mem>
+fn remove<E: Element>(slots: &mut Table<Slot<E>>, alloc: Global, id: usize) -> Result<u64, Mem>
     ensures removed { IfOk result (λ _. slots.new ≡ slice_set slots.old id None) }
     ensures counted { IfOk result (λ removed. sum_by (slot_count (λ element. length (E.props_of element))) slots.new + removed
         ≡ sum_by (slot_count (λ element. length (E.props_of element))) slots.old) }
 {
-    let Some(element) = draft_at(slots, id) else {
+    let Some(element) = live_at(slots, id) else {
         return Ok(0);
     };
     let removed = element.props().len() as u64;
@@ -31,7 +31,7 @@ fn remove<E: Element>(slots: &mut Draft<Slot<E>>, alloc: Global, id: usize) -> R
 
 /// Nothing lives under the listed ids any more. It answers how many values went.
 fn remove_listed<E: Element>(
-    slots: &mut Draft<Slot<E>>,
+    slots: &mut Table<Slot<E>>,
     alloc: Global,
     ids: &[u32],
 ) -> Result<u64, Mem>
@@ -50,20 +50,20 @@ fn remove_listed<E: Element>(
 
 /// A relationship goes if one of its ends doesn't live. It answers how many values went.
 fn remove_if_loose(
-    rels: &mut Draft<Slot<Rel>>,
+    rels: &mut Table<Slot<Rel>>,
     alloc: Global,
-    nodes: &Draft<Slot<Node>>,
+    nodes: &Table<Slot<Node>>,
     row: usize,
 ) -> Result<u64, Mem>
     ensures removed { IfOk result (λ _. rels.new ≡ slice_set rels.old row (kept (ends_live nodes.now) (slot_at rels.old row))) }
     ensures counted { IfOk result (λ removed. sum_by (slot_count (λ rel. length rel.props)) rels.new + removed
         ≡ sum_by (slot_count (λ rel. length rel.props)) rels.old) }
 {
-    let Some(rel) = draft_at(rels, row) else {
+    let Some(rel) = live_at(rels, row) else {
         return Ok(0);
     };
-    let source_lives = draft_at(nodes, rel.source as usize).is_some();
-    let target_lives = draft_at(nodes, rel.target as usize).is_some();
+    let source_lives = live_at(nodes, rel.source as usize).is_some();
+    let target_lives = live_at(nodes, rel.target as usize).is_some();
     if source_lives && target_lives {
         return Ok(0);
     }
@@ -72,9 +72,9 @@ fn remove_if_loose(
 
 /// The relationships of which an end doesn't live go. It answers how many values went.
 fn remove_loose(
-    rels: &mut Draft<Slot<Rel>>,
+    rels: &mut Table<Slot<Rel>>,
     alloc: Global,
-    nodes: &Draft<Slot<Node>>,
+    nodes: &Table<Slot<Node>>,
 ) -> Result<u64, Mem>
     requires { sum_by (slot_count (λ rel. length rel.props)) rels.old < 2 ^ 64 }
     ensures removed { IfOk result (λ _. rels.new ≡ map (kept (ends_live nodes.now)) rels.old) }
@@ -97,7 +97,7 @@ pub(crate) fn without<E: Element>(
     alloc: Global,
     kind: EntityKind,
     ids: &List<u32>,
-) -> Result<(Draft<Slot<E>>, u64), Refusal>
+) -> Result<(Table<Slot<E>>, u64), Refusal>
     requires numbered { IsNumbered E.id_of 0 slots.now }
     requires small { sum_by (slot_count (λ element. length (E.props_of element))) slots.now < 2 ^ 64 }
     ensures removed { IfOk result (λ made. made.0 ≡ map (kept (is_unlisted E.id_of ids.now)) slots.now) }
@@ -110,7 +110,7 @@ pub(crate) fn without<E: Element>(
     if let Some(id) = missing_id(slots, ids.as_slice()) {
         return Err(Refusal::NoSuchEntity { kind, id });
     }
-    let mut draft = slots.edit(alloc)?;
+    let mut draft = slots.try_clone()?;
     let removed = remove_listed(&mut draft, alloc, ids.as_slice())?;
     Ok((draft, removed))
 }
@@ -119,14 +119,14 @@ pub(crate) fn without<E: Element>(
 pub(crate) fn without_loose(
     rels: &Table<Slot<Rel>>,
     alloc: Global,
-    nodes: &Draft<Slot<Node>>,
+    nodes: &Table<Slot<Node>>,
 ) -> Result<(Table<Slot<Rel>>, u64), Mem>
     requires { sum_by (slot_count (λ rel. length rel.props)) rels.now < 2 ^ 64 }
     ensures removed { IfOk result (λ made. made.0 ≡ map (kept (ends_live nodes.now)) rels.now) }
     ensures counted { IfOk result (λ made. sum_by (slot_count (λ rel. length rel.props)) made.0 + made.1
         ≡ sum_by (slot_count (λ rel. length rel.props)) rels.now) }
 {
-    let mut draft = rels.edit(alloc)?;
+    let mut draft = rels.try_clone()?;
     let removed = remove_loose(&mut draft, alloc, nodes)?;
-    Ok((draft.finish(alloc)?, removed))
+    Ok((draft, removed))
 }

@@ -1,4 +1,7 @@
-//! The store.
+//! The store: a property graph that is asked, changed and shared. `specs/Stored` says which graph its slots stand for, and
+//! every `Store` and every `Snapshot` keeps that this graph is valid and within the limits. A change is prepared, which
+//! takes all its memory and gives the graph to come or why it is refused, and then applied, which takes none. What a
+//! change means, and when it is refused, is defined in `graph_model`.
 #![tactic(auto)]
 
 mod changes;
@@ -6,12 +9,15 @@ mod checks;
 mod creating;
 mod deleting;
 mod element;
+mod leaf;
 mod ordering;
 mod setting;
 mod slot;
 mod slots;
 mod store;
 mod table;
+#[cfg(test)]
+mod tests;
 mod values;
 
 pub use store::{Prepared, Snapshot, Store};

@@ -13,10 +13,10 @@ ghost use Rattle.graph_store.specs.Edits.{set_by, with_value};
 use crate::checks::missing_of_pairs;
 use crate::element::Element;
 use crate::slot::Slot;
-use crate::slots::draft_at;
-use crate::table::{Draft, Table};
+use crate::slots::live_at;
+use crate::table::Table;
 use crate::values::set_prop;
-use graph_model::{EntityKind, List, Mem, Name, Refusal};
+use graph_model::{EntityKind, List, Mem, Name, Refusal, TryClone};
 use std::alloc::Global;
 use std::collections::BTreeMap;
 
@@ -33,7 +33,7 @@ fn last_values(alloc: Global, pairs: &[(u32, i64)]) -> Result<BTreeMap<u32, i64>
 
 /// Sets a value of what lives under an id, and answers by how many values there are more.
 fn set_value<E: Element>(
-    slots: &mut Draft<Slot<E>>,
+    slots: &mut Table<Slot<E>>,
     alloc: Global,
     id: u32,
     key: &Name,
@@ -45,7 +45,7 @@ fn set_value<E: Element>(
         ≡ sum_by (slot_count (λ element. length (E.props_of element))) slots.old + added) }
     ensures few { IfOk result (λ added. added ≤ 1) }
 {
-    let Some(element) = draft_at(slots, id as usize) else {
+    let Some(element) = live_at(slots, id as usize) else {
         return Ok(0);
     };
     let props = set_prop(alloc, element.props(), key, value)?;
@@ -58,7 +58,7 @@ fn set_value<E: Element>(
 /// Sets a value of what lives under the id of each pair, and answers by how many values there are more. Of equal ids
 /// the last pair counts.
 fn set_values<E: Element>(
-    slots: &mut Draft<Slot<E>>,
+    slots: &mut Table<Slot<E>>,
     alloc: Global,
     key: &Name,
     pairs: &[(u32, i64)],
@@ -102,7 +102,7 @@ pub(crate) fn with_values<E: Element>(
     if let Some(id) = missing_of_pairs(slots, pairs.as_slice()) {
         return Err(Refusal::NoSuchEntity { kind, id });
     }
-    let mut draft = slots.edit(alloc)?;
+    let mut draft = slots.try_clone()?;
     let added = set_values(&mut draft, alloc, key, pairs.as_slice())?;
-    Ok((draft.finish(alloc)?, added))
+    Ok((draft, added))
 }

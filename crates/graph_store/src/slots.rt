@@ -9,7 +9,7 @@ ghost use Rattle.graph_store.specs.Slots.{slot_at, living, IsNumbered};
 
 use crate::element::Element;
 use crate::slot::Slot;
-use crate::table::{Draft, Table};
+use crate::table::Table;
 use graph_model::{List, Mem, Rel};
 use std::alloc::Global;
 
@@ -23,18 +23,8 @@ pub(crate) fn live_at<E>(slots: &Table<Slot<E>>, id: usize) -> Option<&E>
     }
 }
 
-/// What lives under an id of a draft.
-pub(crate) fn draft_at<E>(slots: &Draft<Slot<E>>, id: usize) -> Option<&E>
-    ensures { option_copied result ≡ slot_at slots.now id }
-{
-    match slots.get(id) {
-        Some(slot) => slot.get(),
-        None => None,
-    }
-}
-
 /// Puts dead slots behind the last one until there are `len` of them.
-fn fill<E: Drop>(slots: &mut Draft<Slot<E>>, alloc: Global, len: usize) -> Result<(), Mem>
+fn fill<E: Drop>(slots: &mut Table<Slot<E>>, alloc: Global, len: usize) -> Result<(), Mem>
     requires { length slots.old ≤ len }
     ensures { OnOk result (slots.new ≡ slots.old ++ replicate (len - length slots.old) None) }
 {
@@ -49,14 +39,14 @@ pub(crate) fn slots_of<E: Element>(
     alloc: Global,
     elements: List<E>,
     next: u32,
-) -> Result<Draft<Slot<E>>, Mem>
+) -> Result<Table<Slot<E>>, Mem>
     requires ascend { Pairwise (λ a b. E.id_of a < E.id_of b) elements }
     requires below { AllByRecursion (λ element. E.id_of element < next) elements }
     ensures living { IfOk result (λ slots. living slots ≡ elements) }
     ensures numbered { IfOk result (λ slots. IsNumbered E.id_of 0 slots) }
     ensures len { IfOk result (λ slots. length slots ≡ next) }
 {
-    let mut slots = Draft::new(alloc);
+    let mut slots = Table::new(alloc)?;
     for element in elements.into_vec() {
         fill(&mut slots, alloc, element.id() as usize)?;
         slots.push(alloc, Slot::of(alloc, element)?)?;

@@ -45,8 +45,8 @@ impl Store {
     {
         let values = value_count(&graph.nodes) + value_count(&graph.rels);
         Ok(Store {
-            nodes: slots_of(alloc, graph.nodes, graph.next_node)?.finish(alloc)?,
-            rels: slots_of(alloc, graph.rels, graph.next_rel)?.finish(alloc)?,
+            nodes: slots_of(alloc, graph.nodes, graph.next_node)?,
+            rels: slots_of(alloc, graph.rels, graph.next_rel)?,
             values,
         })
     }

@@ -1,43 +1,37 @@
-// Rows by number, which copies share, and drafts of them, which can be edited.
-ghost use Rattle.std.specs.Prelude.{◌≡◌, [], ◌∷◌, ◌++◌, ◌<◌, length, slice_get, slice_set, IfOk, OnOk};
+// Rows by number, which copies share. A change copies the leaves that it touches.
+ghost use Rattle.std.specs.Prelude.{◌≡◌, [], ◌∷◌, ◌++◌, ◌<◌, length, slice_get, slice_set, IfOk, OnOk, OnErr};
 ghost use Rattle.std.specs.Option.{option_copied};
+ghost use Rattle.graph_store.specs.Joined.{joined, last_length, IsFilled};
 
-use graph_model::{List, Mem, Shared, TryClone};
+use crate::leaf::{Leaf, unshare};
+use graph_model::{Mem, TryClone};
 use std::alloc::Global;
 use std::marker::Model;
+use std::sync::Arc;
+
+/// How many rows a leaf has room for.
+const LEAF_ROOM: usize = 1_024;
 
 /// Rows, numbered from 0. A copy shares them.
 #[derive(Drop)]
 pub(crate) struct Table<T> {
-    rows: Shared<List<T>>,
+    leaves: Arc<Vec<Leaf<T>>>,
+    len: usize,
 }
 
 impl<T> Model for Table<T> {
     ghost use Rattle.std.specs.Prelude.{List};
     ghost use Rattle.std.specs.Coded.{coded_list};
+    ghost use Rattle.std.specs.Arc.{arc_value};
+    ghost use Rattle.graph_store.specs.Joined.{joined, IsKept};
 
     ghost Value = { List T };
 
     ghost coded = { coded_list T.code };
 
-    ghost view = { λ table. table.rows };
-}
+    ghost view = { λ table. joined (arc_value table.leaves).items };
 
-/// Rows that are being edited.
-#[derive(Drop)]
-pub(crate) struct Draft<T> {
-    rows: Vec<T>,
-}
-
-impl<T> Model for Draft<T> {
-    ghost use Rattle.std.specs.Prelude.{List};
-    ghost use Rattle.std.specs.Coded.{coded_list};
-
-    ghost Value = { List T };
-
-    ghost coded = { coded_list T.code };
-
-    ghost view = { λ draft. draft.rows.items };
+    ghost invariant = { λ table. IsKept 1024 (arc_value table.leaves).items table.len };
 }
 
 impl<T> Table<T> {
@@ -45,85 +39,112 @@ impl<T> Table<T> {
     pub(crate) fn len(&self) -> usize
         ensures { result ≡ length self.now }
     {
-        self.rows.get().len()
+        self.len
     }
 
     /// The row of this number, or nothing past the end.
     pub(crate) fn get(&self, row: usize) -> Option<&T>
         ensures { option_copied result ≡ slice_get self.now row }
     {
-        self.rows.get().as_slice().get(row)
+        match self.leaves.get(row / LEAF_ROOM) {
+            Some(leaf) => leaf.get(row % LEAF_ROOM),
+            None => None,
+        }
     }
+}
+
+/// How many rows the last leaf has, and the room of a leaf where there is none.
+fn last_len<T>(leaves: &[Leaf<T>]) -> usize
+    ensures { result ≡ last_length 1024 leaves.now }
+{
+    let count = leaves.len();
+    if count == 0 {
+        return LEAF_ROOM;
+    }
+    leaves[count - 1].len()
+}
+
+/// Puts an item in the place of a row.
+fn set_row<T: TryClone + Drop>(
+    leaves: &mut Vec<Leaf<T>>,
+    alloc: Global,
+    row: usize,
+    item: T,
+) -> Result<(), Mem>
+    requires full { IsFilled 1024 leaves.old.items }
+    requires within { row < length (joined leaves.old.items) }
+    ensures set { OnOk result (joined leaves.new.items ≡ slice_set (joined leaves.old.items) row item) }
+    ensures filled { OnOk result (IsFilled 1024 leaves.new.items) }
+    ensures err { OnErr result (leaves.new.items ≡ leaves.old.items) }
+{
+    let leaf = &mut leaves[row / LEAF_ROOM];
+    leaf.set(alloc, row % LEAF_ROOM, item)
+}
+
+/// Puts an item behind the last row: into the last leaf where it has room, and else into a new one.
+fn push_row<T: TryClone + Drop>(
+    leaves: &mut Vec<Leaf<T>>,
+    alloc: Global,
+    item: T,
+) -> Result<(), Mem>
+    requires { IsFilled 1024 leaves.old.items }
+    ensures pushed { OnOk result (joined leaves.new.items ≡ joined leaves.old.items ++ item ∷ []) }
+    ensures filled { OnOk result (IsFilled 1024 leaves.new.items) }
+    ensures err { OnErr result (leaves.new.items ≡ leaves.old.items) }
+{
+    if last_len(leaves.as_slice()) < LEAF_ROOM {
+        let last = leaves.len() - 1;
+        let leaf = &mut leaves[last];
+        return leaf.push(alloc, item);
+    }
+    let leaf = Leaf::of(alloc, item)?;
+    leaves.push(leaf)?;
+    Ok(())
 }
 
 impl<T: TryClone + Drop> Table<T> {
-    /// The rows, to be edited.
-    pub(crate) fn edit(&self, alloc: Global) -> Result<Draft<T>, Mem>
-        ensures { IfOk result (λ draft. draft ≡ self.now) }
+    /// No rows.
+    pub(crate) fn new(alloc: Global) -> Result<Table<T>, Mem>
+        ensures { IfOk result (λ table. table ≡ []) }
     {
-        Ok(Draft {
-            rows: self.rows.get().try_clone()?.into_vec(),
-        })
-    }
-}
-
-impl<T> TryClone for Table<T> {
-    fn try_clone(&self) -> Result<Table<T>, Mem> {
         Ok(Table {
-            rows: self.rows.try_clone()?,
+            leaves: Arc::new(alloc, Vec::new(alloc))?,
+            len: 0,
         })
     }
-}
 
-impl<T> Draft<T> {
-    /// No rows. It takes no memory.
-    pub(crate) fn new(alloc: Global) -> Draft<T>
-        ensures { result ≡ [] }
-    {
-        Draft {
-            rows: Vec::new(alloc),
-        }
-    }
-
-    /// How many rows there are.
-    pub(crate) fn len(&self) -> usize
-        ensures { result ≡ length self.now }
-    {
-        self.rows.len()
-    }
-
-    /// The row of this number, or nothing past the end.
-    pub(crate) fn get(&self, row: usize) -> Option<&T>
-        ensures { option_copied result ≡ slice_get self.now row }
-    {
-        self.rows.get(row)
-    }
-}
-
-impl<T: TryClone + Drop> Draft<T> {
     /// Puts an item in the place of a row.
     pub(crate) fn set(&mut self, alloc: Global, row: usize, item: T) -> Result<(), Mem>
         requires { row < length self.old }
         ensures { OnOk result (self.new ≡ slice_set self.old row item) }
     {
-        self.rows[row] = item;
-        Ok(())
+        unshare(&mut self.leaves, alloc)?;
+        match Arc::get_mut(&mut self.leaves) {
+            Some(leaves) => set_row(leaves, alloc, row, item),
+            None => Err(Mem),
+        }
     }
 
     /// Puts an item behind the last row.
     pub(crate) fn push(&mut self, alloc: Global, item: T) -> Result<(), Mem>
         ensures { OnOk result (self.new ≡ self.old ++ item ∷ []) }
     {
-        self.rows.push(item)?;
+        let len = self.len.checked_add(1).ok_or(Mem)?;
+        unshare(&mut self.leaves, alloc)?;
+        match Arc::get_mut(&mut self.leaves) {
+            Some(leaves) => push_row(leaves, alloc, item)?,
+            None => return Err(Mem),
+        }
+        self.len = len;
         Ok(())
     }
+}
 
-    /// The rows as they are now, to be shared.
-    pub(crate) fn finish(self, alloc: Global) -> Result<Table<T>, Mem>
-        ensures { IfOk result (λ table. table ≡ self) }
-    {
+impl<T> TryClone for Table<T> {
+    fn try_clone(&self) -> Result<Table<T>, Mem> {
         Ok(Table {
-            rows: Shared::new(alloc, List::from_vec(self.rows))?,
+            leaves: Arc::try_clone(&self.leaves)?,
+            len: self.len,
         })
     }
 }

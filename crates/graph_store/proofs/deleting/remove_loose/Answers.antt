@@ -1,4 +1,4 @@
-use Rattle.std.proofs.Common.{◌≡◌, None, arith}
+use Rattle.std.proofs.Common.{None, arith}
 use Rattle.graph_store.specs.Slots.{kept}
 use Rattle.graph_store.specs.Edits.{ends_live}
 use Rattle.graph_store.proofs.SlotLemmas.{set-front, get_or-front}

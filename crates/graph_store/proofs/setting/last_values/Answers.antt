@@ -1,4 +1,4 @@
-use Rattle.std.proofs.Common.{◌≡◌, get_or, pos, rules, arith}
+use Rattle.std.proofs.Common.{get_or, pos, rules, arith}
 use Rattle.std.proofs.lemmas.Int.{to_z-of_z}
 use Rattle.std.specs.Int.{w64}
 use Rattle.graph_store.proofs.SettingLemmas.{last_value_more}

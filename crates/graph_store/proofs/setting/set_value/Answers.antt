@@ -1,7 +1,6 @@
-use Rattle.std.proofs.Common.{◌≡◌, ◌+◌, ◌≤◌, length, sym, ◌∙◌, ap, arith}
+use Rattle.std.proofs.Common.{arith}
 use Rattle.std.proofs.lemmas.Int.{to_z-of_z}
 use Rattle.std.specs.Int.{w64}
-use Rattle.graph_model.specs.Change.{set_prop}
 use Rattle.graph_store.proofs.SettingLemmas.{length-set_prop, sum_by-set_value}
 use Rattle.graph_store.proofs.setting.set_value.Goals as goal
 

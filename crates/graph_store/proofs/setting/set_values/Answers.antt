@@ -1,11 +1,11 @@
-use Rattle.std.proofs.Common.{◌≡◌, ◌+◌, ◌++◌, [], ◌∷◌, map, take, get_or, length, pos, sym, ◌∙◌, rules, arith}
+use Rattle.std.proofs.Common.{◌≡◌, ◌+◌, ◌++◌, [], ◌∷◌, map, take, get_or, pos, sym, ◌∙◌, rules, arith}
 use Rattle.std.specs.Int.{w64}
 use Rattle.std.specs.Ordering.{nat_cmp}
 use Rattle.std.specs.BTreeMap.{get}
 use Rattle.std.proofs.lemmas.List.{map_more, take_all}
 use Rattle.std.proofs.lemmas.Int.{to_z-of_z}
 use Rattle.graph_model.specs.Change.{pair_id}
-use Rattle.graph_store.proofs.EditLemmas.{IsSetSoFar, IsSetSoFar-none, IsSetSoFar-more, IsSetSoFar-again, IsSetSoFar-all}
+use Rattle.graph_store.proofs.EditLemmas.{IsSetSoFar-none, IsSetSoFar-more, IsSetSoFar-again, IsSetSoFar-all}
 use Rattle.graph_store.proofs.setting.set_values.Goals as goal
 use Rattle.graph_store.proofs.setting.set_values.Goals.{in-Some+in_ok-added, in_default}
 

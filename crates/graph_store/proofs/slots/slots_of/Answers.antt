@@ -1,14 +1,14 @@
-use Rattle.std.proofs.Common.{◌≡◌, ◌-◌, List, [], ◌++◌, ◌∷◌, length, Some, sym, ◌∙◌, ap, subst, refl, arith}
+use Rattle.std.proofs.Common.{◌≡◌, ◌-◌, [], ◌++◌, length, sym, ◌∙◌, arith}
 use Rattle.std.specs.Vec.Iter.{into_iter_items}
 use Rattle.std.proofs.lemmas.List.{append-nil, nil_from_length}
-use Rattle.graph_store.specs.Slots.{living, IsNumbered}
-use Rattle.graph_store.proofs.Placing.{IsPlaced, IsPlaced-none, IsPlaced-more, living-filled, IsNumbered-filled}
+use Rattle.graph_store.specs.Slots.{living}
+use Rattle.graph_store.proofs.Placing.{IsPlaced-none, IsPlaced-more, living-filled, IsNumbered-filled}
 use Rattle.graph_store.proofs.slots.slots_of.Goals as goal
 
 pub loop-element-init : goal.loop-element-init
 loop-element-init g c =
     let all : into_iter_items c.into_iter-element-iterator.result ≡ c.args.elements = c.into_iter-element-iterator.ensures.into_iter_gives.0 ∙ c.into_vec-element-items.ensures in
-    rw (all, c.new-slots.ensures) (IsPlaced-none g.E.Element.id_of c.args.next c.args.elements c.requires.ascend c.requires.below)
+    rw (all, c.in_ok-slots.ensures) (IsPlaced-none g.E.Element.id_of c.args.next c.args.elements c.requires.ascend c.requires.below)
 
 pub loop-element-preserved : goal.loop-element-preserved
 loop-element-preserved g c =

@@ -1,4 +1,4 @@
-use Rattle.std.proofs.Common.{◌≡◌, Some, None, sym, ◌∙◌, arith}
+use Rattle.std.proofs.Common.{◌≡◌, Some, None, sym, ◌∙◌}
 use Rattle.std.specs.List.{find, flat_map}
 use Rattle.std.proofs.lemmas.Result.{err_from_is_err_and}
 use Rattle.graph_model.specs.declared.change.Change.TheVariants.{Create}

@@ -1,4 +1,4 @@
-use Rattle.std.proofs.Common.{◌≡◌, Some, None, sym, ◌∙◌, refl, arith}
+use Rattle.std.proofs.Common.{◌≡◌, Some, ◌∙◌, refl}
 use Rattle.std.proofs.lemmas.Result.{err_from_is_err_and}
 use Rattle.graph_model.specs.declared.change.Change.TheVariants.{SetRels}
 use Rattle.graph_model.specs.Change.{refused_change}

@@ -1,4 +1,4 @@
-use Rattle.std.proofs.Common.{refl, ◌∙◌, arith}
+use Rattle.std.proofs.Common.{refl, arith}
 use Rattle.std.proofs.lemmas.Result.{err_from_is_err_and}
 use Rattle.graph_model.specs.declared.change.Change.TheVariants.{DeleteRels}
 use Rattle.graph_store.proofs.ChangeLemmas.{values_fit, refused_for_rel, rels_gone_made}
@@ -8,25 +8,25 @@ pub without-requires-clause-small : goal.without-requires-clause-small
 without-requires-clause-small c =
     let fit = values_fit c.self.inside.nodes c.self.inside.rels c.self.inside.values c.self.invariant in omega (arith, fit.0, fit.1)
 
-pub returns-in_err-draft-clause-refused : goal.returns-in_err-draft-clause-refused
-returns-in_err-draft-clause-refused c =
+pub returns-in_err-rels-clause-refused : goal.returns-in_err-rels-clause-refused
+returns-in_err-rels-clause-refused c =
     let p = err_from_is_err_and c.from_residual.result c.from_residual.ensures.1 in
-    rw (p.1, p.2) (refused_for_rel c.self.inside.nodes c.self.inside.rels c.args.self.now (DeleteRels c.args.ids.now) c.in_err-draft.field-0.0
-    c.self.invariant.rel_slots c.self.view_is refl c.in_err-draft.ensures.refused)
+    rw (p.1, p.2) (refused_for_rel c.self.inside.nodes c.self.inside.rels c.args.self.now (DeleteRels c.args.ids.now) c.in_err-rels.field-0.0
+    c.self.invariant.rel_slots c.self.view_is refl c.in_err-rels.ensures.refused)
 
 pub overflow_sub-result : goal.overflow_sub-result
 overflow_sub-result c =
     let fit = values_fit c.self.inside.nodes c.self.inside.rels c.self.inside.values c.self.invariant in
-    let counted = c.in_ok-draft.ensures.counted in omega (arith, fit.0, counted)
+    let counted = c.in_ok-rels.ensures.counted in omega (arith, fit.0, counted)
 
 pub invariant_of-result : goal.invariant_of-result
 invariant_of-result c =
-    let gone = c.in_ok-draft.ensures in
-    (rels_gone_made c.self.inside.nodes c.self.inside.rels c.self.inside.values c.args.self.now c.args.ids.now c.in_ok-rels.rels c.in_ok-draft.rel_values c.in_ok-nodes.nodes
-    (record { sound = c.self.invariant; is = c.self.view_is; found = gone.found; gone = c.in_ok-rels.ensures ∙ gone.removed; counted = rw c.in_ok-rels.ensures gone.counted }) c.in_ok-nodes.ensures).0
+    let gone = c.in_ok-rels.ensures in
+    (rels_gone_made c.self.inside.nodes c.self.inside.rels c.self.inside.values c.args.self.now c.args.ids.now c.in_ok-rels.rels c.in_ok-rels.rel_values c.in_ok-nodes.nodes
+    (record { sound = c.self.invariant; is = c.self.view_is; found = gone.found; gone = gone.removed; counted = gone.counted }) c.in_ok-nodes.ensures).0
 
 pub returns-clause-ok : goal.returns-clause-ok
 returns-clause-ok c =
-    let gone = c.in_ok-draft.ensures in
-    (rels_gone_made c.self.inside.nodes c.self.inside.rels c.self.inside.values c.args.self.now c.args.ids.now c.in_ok-rels.rels c.in_ok-draft.rel_values c.in_ok-nodes.nodes
-    (record { sound = c.self.invariant; is = c.self.view_is; found = gone.found; gone = c.in_ok-rels.ensures ∙ gone.removed; counted = rw c.in_ok-rels.ensures gone.counted }) c.in_ok-nodes.ensures).1
+    let gone = c.in_ok-rels.ensures in
+    (rels_gone_made c.self.inside.nodes c.self.inside.rels c.self.inside.values c.args.self.now c.args.ids.now c.in_ok-rels.rels c.in_ok-rels.rel_values c.in_ok-nodes.nodes
+    (record { sound = c.self.invariant; is = c.self.view_is; found = gone.found; gone = gone.removed; counted = gone.counted }) c.in_ok-nodes.ensures).1
