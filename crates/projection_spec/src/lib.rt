@@ -4,6 +4,7 @@
 mod arcs;
 mod entries;
 pub mod laws;
+mod written;
 
 pub use arcs::{Grouped, RawArc};
 pub use entries::{NodeEntry, NodeProp, ProjectSpec, RelEntry, RelProp, Rule};
