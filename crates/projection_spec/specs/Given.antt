@@ -1,47 +1,17 @@
 -- What a text, a list or a map gives, where JSON names entries or properties.
---   given projected value           the projected names, each with what is said of it
---   parts_of projected read name value      the parts that are read of them, ascending by projected name
+--   given_parts projected read value        the parts that are read of it, as given
+--   parts_of projected read name value      the same, ascending by projected name
 --   joined name own added           parts, and of others those with further names
---   fields_among main names value   the fields of what is said of a part
-use Rattle.std.specs.Prelude.{ℕ, nat_eq, nat_le, Bool, true, false, not, ◌&&◌, if◌then◌else◌, List, [], ◌∷◌, ◌++◌, length, filter, Option, Some, None, option_and_then}
+--   fits_fields names value         whether no other fields than these are said of a part
+--   main_field name value           what its main field says
+use Rattle.std.specs.Prelude.{ℕ, nat_eq, nat_le, Bool, true, false, not, ◌&&◌, if◌then◌else◌, List, [], ◌∷◌, ◌++◌, length, filter, insert, Option, Some, None, option_and_then}
 use Rattle.std.specs.List.{list_any}
 use Rattle.std.specs.Ordering.{nat_cmp}
 use Rattle.std.specs.Cmp.Lexicographic.{slice_cmp, pointwise}
 use Rattle.std.specs.declared.cmp.Ordering.{Ordering}
 use Rattle.std.specs.declared.cmp.Ordering.TheVariants.{Less, Equal, Greater}
+use Rattle.serde_json.specs.Find.{get_member}
 use Rattle.serde_json.specs.Data.{Data, null, boolean, number, string, array, object, Items, no_items, item, Members, no_members, member}
-
--- a projected name, and what is said of it
-abbrev pub Given : Type 0
-Given = List ℕ × Data
-
--- an item before others: a text stands for itself under its projected name, and nothing else may stand in a list
-abbrev pub with_item : (List ℕ → List ℕ) → Data → Option (List Given) → Option (List Given)
-with_item projected (string text) (Some others) = Some ((projected text, string text) ∷ others)
-with_item projected _ others = None
-
--- what the items of a list give
-abbrev pub given_items : (List ℕ → List ℕ) → Items → Option (List Given)
-given_items projected no_items = Some []
-given_items projected (item value items) = with_item projected value (given_items projected items)
-
--- what the fields of a map give
-abbrev pub given_members : Members → List Given
-given_members no_members = []
-given_members (member name value members) = (name, value) ∷ given_members members
-
--- what a text, a list or a map gives; a text stands for a list of one
-abbrev pub given : (List ℕ → List ℕ) → Data → Option (List Given)
-given projected null = None
-given projected (boolean b) = None
-given projected (number n) = None
-given projected (string text) = Some ((projected text, string text) ∷ [])
-given projected (array items) = given_items projected items
-given projected (object members) = Some (given_members members)
-
--- a list that is no longer than entries and keys may be
-abbrev pub within_limit : {A : Type 0} → List A → Option (List A)
-within_limit xs = if nat_le (length xs) 64 then Some xs else None
 
 -- a part before others, where all are there
 abbrev pub before_others : {A : Type 0} → Option A → Option (List A) → Option (List A)
@@ -49,10 +19,37 @@ before_others (Some x) (Some xs) = Some (x ∷ xs)
 before_others (Some x) None = None
 before_others None others = None
 
--- each part as it is read, where none is wrong
-abbrev pub all_read : {A : Type 0} → (List ℕ → Data → Option A) → List Given → Option (List A)
-all_read read [] = Some []
-all_read read (g ∷ gs) = before_others (read g.0 g.1) (all_read read gs)
+-- the part that an item of a list gives: a text stands for itself under its projected name, and nothing else may stand there
+abbrev pub item_part : {A : Type 0} → (List ℕ → List ℕ) → (List ℕ → Data → Option A) → Data → Option A
+item_part projected read null = None
+item_part projected read (boolean b) = None
+item_part projected read (number n) = None
+item_part projected read (string text) = read (projected text) (string text)
+item_part projected read (array list) = None
+item_part projected read (object fields) = None
+
+-- the parts that a list gives
+abbrev pub item_parts : {A : Type 0} → (List ℕ → List ℕ) → (List ℕ → Data → Option A) → Items → Option (List A)
+item_parts projected read no_items = Some []
+item_parts projected read (item value items) = before_others (item_part projected read value) (item_parts projected read items)
+
+-- the parts that a map gives, one for each of its fields
+abbrev pub member_parts : {A : Type 0} → (List ℕ → Data → Option A) → Members → Option (List A)
+member_parts read no_members = Some []
+member_parts read (member name value fields) = before_others (read name value) (member_parts read fields)
+
+-- the parts that a text, a list or a map gives, as given; a text stands for a list of one
+abbrev pub given_parts : {A : Type 0} → (List ℕ → List ℕ) → (List ℕ → Data → Option A) → Data → Option (List A)
+given_parts projected read null = None
+given_parts projected read (boolean b) = None
+given_parts projected read (number n) = None
+given_parts projected read (string text) = item_parts projected read (item (string text) no_items)
+given_parts projected read (array items) = item_parts projected read items
+given_parts projected read (object fields) = member_parts read fields
+
+-- a list that is no longer than entries and keys may be
+abbrev pub within_limit : {A : Type 0} → List A → Option (List A)
+within_limit xs = if nat_le (length xs) 64 then Some xs else None
 
 -- a part among others that ascend, where it compares like this with the first: before it, or behind it; none where their names are one
 abbrev pub place_part : {A : Type 0} → Ordering → A → A → List A → Option (List A) → Option (List A)
@@ -66,6 +63,11 @@ put_part name part [] = Some (part ∷ [])
 put_part name part (first ∷ rest) =
     place_part (slice_cmp nat_cmp (name part) (name first)) part first rest (put_part name part rest)
 
+-- a part put at a place of others, or nothing where there is no place
+abbrev pub placed_at : {A : Type 0} → A → List A → Option ℕ → Option (List A)
+placed_at part parts None = None
+placed_at part parts (Some place) = Some (insert parts place part)
+
 -- parts in ascending order of their names, where no two have one name
 abbrev pub ascending_by : {A : Type 0} → (A → List ℕ) → List A → Option (List A)
 ascending_by name [] = Some []
@@ -74,7 +76,7 @@ ascending_by name (part ∷ parts) = option_and_then (put_part name part) (ascen
 -- the parts that a text, a list or a map gives, ascending by name
 abbrev pub parts_of : {A : Type 0} → (List ℕ → List ℕ) → (List ℕ → Data → Option A) → (A → List ℕ) → Data → Option (List A)
 parts_of projected read name value =
-    option_and_then (ascending_by name) (option_and_then (all_read read) (option_and_then within_limit (given projected value)))
+    option_and_then (ascending_by name) (option_and_then within_limit (given_parts projected read value))
 
 -- whether some part has this name
 abbrev pub has_name : {A : Type 0} → (A → List ℕ) → List A → List ℕ → Bool
@@ -95,20 +97,25 @@ is_among names text = list_any (pointwise nat_eq text) names
 -- whether a map has no other fields than these
 abbrev pub has_only : List (List ℕ) → Members → Bool
 has_only names no_members = true
-has_only names (member name value members) = is_among names name && has_only names members
+has_only names (member name value fields) = is_among names name && has_only names fields
 
--- a map that has no other fields than these
-abbrev pub only_fields : List (List ℕ) → Members → Option Members
-only_fields names members = if has_only names members then Some members else None
+-- whether what is said of a part is a text, or a map with no other fields than these
+abbrev pub fits_fields : List (List ℕ) → Data → Bool
+fits_fields names null = false
+fits_fields names (boolean b) = false
+fits_fields names (number n) = false
+fits_fields names (string text) = true
+fits_fields names (array list) = false
+fits_fields names (object fields) = has_only names fields
 
--- the fields of what is said of a part, which may be these; a text stands for a map with the main one
-abbrev pub fields_among : List ℕ → List (List ℕ) → Data → Option Members
-fields_among main names null = None
-fields_among main names (boolean b) = None
-fields_among main names (number n) = None
-fields_among main names (string text) = Some (member main (string text) no_members)
-fields_among main names (array items) = None
-fields_among main names (object members) = only_fields names members
+-- what the main field says; a text stands for a map with this field alone
+abbrev pub main_field : List ℕ → Data → Option Data
+main_field name null = None
+main_field name (boolean b) = None
+main_field name (number n) = None
+main_field name (string text) = Some (string text)
+main_field name (array list) = None
+main_field name (object fields) = get_member name fields
 
 -- what a field says, or the default where it isn't there
 abbrev pub field_or : {A : Type 0} → (Data → Option A) → A → Option Data → Option A

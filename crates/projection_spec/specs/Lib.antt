@@ -1,4 +1,5 @@
 -- Definitions on projections.
+pub mod Faults
 pub mod Fields
 pub mod Given
 pub mod JsonRows

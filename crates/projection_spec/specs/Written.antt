@@ -6,8 +6,8 @@
 use Rattle.std.specs.Prelude.{ℕ, ℤ, Bool, true, false, ◌||◌, if◌then◌else◌, List, [], ◌∷◌, Option, Some, None, option_and_then, is_some, unwrap_or, codes}
 use Rattle.std.specs.Option.{option_or}
 use Rattle.std.specs.List.{list_all}
-use Rattle.serde_json.specs.Data.{Data, Members}
-use Rattle.serde_json.specs.Find.{get_member}
+use Rattle.serde_json.specs.Data.{Data}
+use Rattle.serde_json.specs.Find.{get}
 use Rattle.graph_model.specs.declared.graph.Orientation.{Orientation}
 use Rattle.graph_model.specs.declared.graph.Orientation.TheVariants.{Natural}
 use Rattle.projection_spec.specs.declared.entries.Rule.{Rule}
@@ -16,7 +16,7 @@ use Rattle.projection_spec.specs.declared.entries.NodeProp.{NodeProp}
 use Rattle.projection_spec.specs.declared.entries.NodeEntry.{NodeEntry}
 use Rattle.projection_spec.specs.declared.written.WrittenProp.{WrittenProp}
 use Rattle.projection_spec.specs.declared.written.WrittenEntry.{WrittenEntry}
-use Rattle.projection_spec.specs.Given.{parts_of, fields_among, field_or}
+use Rattle.projection_spec.specs.Given.{parts_of, fits_fields, main_field, field_or}
 use Rattle.projection_spec.specs.Words.{name_of, projected_entry, projected_key, read_name, read_store, read_orientation, read_aggregation, read_whole}
 
 -- what parts are called
@@ -37,16 +37,14 @@ abbrev pub node_prop_from : Option (List ℕ) → Option (List ℕ) → Option (
 node_prop_from (Some key) (Some store) (Some default) = Some (record { key = key; store = store; default = default })
 node_prop_from _ _ _ = None
 
--- a key of projected nodes by the fields that are given
-abbrev pub node_prop_by : List ℕ → Members → Option NodeProp
-node_prop_by key fields = node_prop_from (name_of key)
-    (field_or read_name key (get_member (codes "property") fields))
-    (field_or read_whole None (get_member (codes "defaultValue") fields))
-
 -- a key of projected nodes by what is said of it
 abbrev pub node_prop : List ℕ → Data → Option NodeProp
 node_prop key value =
-    option_and_then (node_prop_by key) (fields_among (codes "property") (codes "property" ∷ codes "defaultValue" ∷ []) value)
+    if fits_fields (codes "property" ∷ codes "defaultValue" ∷ []) value
+    then node_prop_from (name_of key)
+    (field_or read_name key (main_field (codes "property") value))
+    (field_or read_whole None (get (codes "defaultValue") value))
+    else None
 
 -- the keys of projected nodes
 abbrev pub node_props : Data → Option (List NodeProp)
@@ -57,16 +55,14 @@ abbrev pub node_entry_from : Option (List ℕ) → Option (Option (List ℕ)) �
 node_entry_from (Some label) (Some store) (Some props) = Some (record { label = label; store = store; props = props })
 node_entry_from _ _ _ = None
 
--- a projected label by the fields that are given
-abbrev pub node_entry_by : List ℕ → Members → Option NodeEntry
-node_entry_by label fields = node_entry_from (name_of label)
-    (field_or read_store (Some label) (get_member (codes "label") fields))
-    (field_or node_props [] (get_member (codes "properties") fields))
-
 -- a projected label by what is said of it
 abbrev pub node_entry : List ℕ → Data → Option NodeEntry
 node_entry label value =
-    option_and_then (node_entry_by label) (fields_among (codes "label") (codes "label" ∷ codes "properties" ∷ []) value)
+    if fits_fields (codes "label" ∷ codes "properties" ∷ []) value
+    then node_entry_from (name_of label)
+    (field_or read_store (Some label) (main_field (codes "label") value))
+    (field_or node_props [] (get (codes "properties") value))
+    else None
 
 -- entries of a side, which may not be missing altogether
 abbrev pub some_entry : {A : Type 0} → List A → Option (List A)
@@ -83,17 +79,15 @@ written_prop_from (Some key) (Some store) (Some default) (Some aggregation) =
     Some (record { key = key; store = store; default = default; aggregation = aggregation })
 written_prop_from _ _ _ _ = None
 
--- a key of projected arcs by the fields that are given
-abbrev pub written_prop_by : List ℕ → Members → Option WrittenProp
-written_prop_by key fields = written_prop_from (name_of key)
-    (field_or read_store (Some key) (get_member (codes "property") fields))
-    (field_or read_whole None (get_member (codes "defaultValue") fields))
-    (field_or read_aggregation None (get_member (codes "aggregation") fields))
-
 -- a key of projected arcs by what is said of it
 abbrev pub written_prop : List ℕ → Data → Option WrittenProp
-written_prop key value = option_and_then (written_prop_by key)
-    (fields_among (codes "property") (codes "property" ∷ codes "defaultValue" ∷ codes "aggregation" ∷ []) value)
+written_prop key value =
+    if fits_fields (codes "property" ∷ codes "defaultValue" ∷ codes "aggregation" ∷ []) value
+    then written_prop_from (name_of key)
+    (field_or read_store (Some key) (main_field (codes "property") value))
+    (field_or read_whole None (get (codes "defaultValue") value))
+    (field_or read_aggregation None (get (codes "aggregation") value))
+    else None
 
 -- the keys of projected arcs
 abbrev pub written_props : Data → Option (List WrittenProp)
@@ -126,18 +120,16 @@ written_entry_from (Some kind) (Some store) (Some orientation) (Some aggregation
     with_sources (record { kind = kind; store = store; orientation = orientation; aggregation = aggregation; props = props })
 written_entry_from _ _ _ _ _ = None
 
--- a projected type by the fields that are given
-abbrev pub written_entry_by : List ℕ → Members → Option WrittenEntry
-written_entry_by kind fields = written_entry_from (name_of kind)
-    (field_or read_store (Some kind) (get_member (codes "type") fields))
-    (field_or read_orientation Natural (get_member (codes "orientation") fields))
-    (field_or read_aggregation None (get_member (codes "aggregation") fields))
-    (field_or written_props [] (get_member (codes "properties") fields))
-
 -- a projected type by what is said of it
 abbrev pub written_entry : List ℕ → Data → Option WrittenEntry
-written_entry kind value = option_and_then (written_entry_by kind)
-    (fields_among (codes "type") (codes "type" ∷ codes "orientation" ∷ codes "aggregation" ∷ codes "properties" ∷ []) value)
+written_entry kind value =
+    if fits_fields (codes "type" ∷ codes "orientation" ∷ codes "aggregation" ∷ codes "properties" ∷ []) value
+    then written_entry_from (name_of kind)
+    (field_or read_store (Some kind) (main_field (codes "type") value))
+    (field_or read_orientation Natural (get (codes "orientation") value))
+    (field_or read_aggregation None (get (codes "aggregation") value))
+    (field_or written_props [] (get (codes "properties") value))
+    else None
 
 -- the side of the relationships
 abbrev pub written_entries : Data → Option (List WrittenEntry)

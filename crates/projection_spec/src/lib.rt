@@ -3,7 +3,14 @@
 
 mod arcs;
 mod entries;
+mod fault;
+mod fields;
 pub mod laws;
+mod nodes;
+mod part;
+mod rels;
+mod settings;
+mod words;
 mod written;
 
 pub use arcs::{Grouped, RawArc};
