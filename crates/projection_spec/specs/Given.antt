@@ -78,13 +78,21 @@ abbrev pub parts_of : {A : Type 0} → (List ℕ → List ℕ) → (List ℕ →
 parts_of projected read name value =
     option_and_then (ascending_by name) (option_and_then within_limit (given_parts projected read value))
 
+-- whether a part has this name
+abbrev pub is_named : {A : Type 0} → (A → List ℕ) → List ℕ → A → Bool
+is_named name wanted part = pointwise nat_eq (name part) wanted
+
 -- whether some part has this name
 abbrev pub has_name : {A : Type 0} → (A → List ℕ) → List A → List ℕ → Bool
-has_name name parts wanted = list_any (λ part. pointwise nat_eq (name part) wanted) parts
+has_name name parts wanted = list_any (is_named name wanted) parts
+
+-- whether the name of a part is a further one
+abbrev pub is_further : {A : Type 0} → (A → List ℕ) → List A → A → Bool
+is_further name own part = not (has_name name own (name part))
 
 -- those parts whose names are further ones
 abbrev pub further : {A : Type 0} → (A → List ℕ) → List A → List A → List A
-further name own added = filter (λ part. not (has_name name own (name part))) added
+further name own added = filter (is_further name own) added
 
 -- parts, and those of others that have further names
 abbrev pub joined : {A : Type 0} → (A → List ℕ) → List A → List A → Option (List A)

@@ -3,7 +3,7 @@
 --   written_prop, written_props       a key of projected arcs, and all of an entry
 --   node_entry, node_entries    a projected label, and the side of the nodes
 --   written_entry, written_entries    a projected type, and the side of the relationships
-use Rattle.std.specs.Prelude.{ℕ, ℤ, Bool, true, false, ◌||◌, if◌then◌else◌, List, [], ◌∷◌, Option, Some, None, option_and_then, is_some, unwrap_or, codes}
+use Rattle.std.specs.Prelude.{◌≡◌, ℕ, ℤ, Bool, true, false, ◌||◌, if◌then◌else◌, List, [], ◌∷◌, Option, Some, None, option_and_then, is_some, unwrap_or, codes}
 use Rattle.std.specs.Option.{option_or}
 use Rattle.std.specs.List.{list_all}
 use Rattle.serde_json.specs.Data.{Data}
@@ -113,6 +113,10 @@ has_source aggregation prop = is_some prop.store || is_count (rule_in aggregatio
 -- an entry each of whose keys has a key of the store, or else counts
 abbrev pub with_sources : WrittenEntry → Option WrittenEntry
 with_sources entry = if list_all (has_source entry.aggregation) entry.props then Some entry else None
+
+-- each key of an entry has a key of the store, or else counts
+abbrev pub HasSources : WrittenEntry → Type 0
+HasSources entry = list_all (has_source entry.aggregation) entry.props ≡ true
 
 -- a projected type, where each of its fields is right
 abbrev pub written_entry_from : Option (List ℕ) → Option (Option (List ℕ)) → Option Orientation → Option (Option Rule) → Option (List WrittenProp) → Option WrittenEntry

@@ -1,6 +1,7 @@
 //! What a projection takes from the store: its entries, and how they are read from JSON.
 #![tactic(auto)]
 
+mod added;
 mod arcs;
 mod entries;
 mod fault;
@@ -8,8 +9,10 @@ mod fields;
 pub mod laws;
 mod nodes;
 mod part;
+mod reading;
 mod rels;
 mod settings;
+mod settled;
 mod words;
 mod written;
 

@@ -1,6 +1,6 @@
 // Relationship entries as they are written, before their rules are settled.
 use crate::entries::Rule;
-use graph_model::{List, Name, Orientation};
+use graph_model::{List, Mem, Name, Orientation, TryClone};
 
 /// A key of projected arcs, with its own aggregation or none.
 #[derive(Debug, Drop)]
@@ -10,6 +10,21 @@ pub(crate) struct WrittenProp {
     pub(crate) store: Option<Name>,
     pub(crate) default: Option<i64>,
     pub(crate) aggregation: Option<Rule>,
+}
+
+impl TryClone for WrittenProp {
+    fn try_clone(&self) -> Result<WrittenProp, Mem> {
+        let store = match &self.store {
+            Some(name) => Some(name.try_clone()?),
+            None => None,
+        };
+        Ok(WrittenProp {
+            key: self.key.try_clone()?,
+            store,
+            default: self.default,
+            aggregation: self.aggregation,
+        })
+    }
 }
 
 /// A projected type, with its own aggregation or none.
