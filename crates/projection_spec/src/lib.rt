@@ -13,6 +13,8 @@ mod reading;
 mod rels;
 mod settings;
 mod settled;
+#[cfg(test)]
+mod tests;
 mod words;
 mod written;
 
