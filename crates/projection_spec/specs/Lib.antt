@@ -1,5 +1,11 @@
 -- Definitions on projections.
+pub mod Faults
 pub mod Fields
+pub mod Given
+pub mod JsonRows
 pub mod KeptArcs
+pub mod Projected
 pub mod RawArcs
+pub mod Words
 pub mod WorkedRows
+pub mod Written

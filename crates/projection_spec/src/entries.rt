@@ -1,5 +1,5 @@
 // The entries of a projection.
-use graph_model::{List, Name, Orientation};
+use graph_model::{List, Mem, Name, Orientation, TryClone};
 use std::marker::Model;
 
 /// How the arcs of a group give the value of a key.
@@ -27,6 +27,16 @@ pub struct NodeProp {
     pub store: Name,
     /// The value of a node that stores none.
     pub default: Option<i64>,
+}
+
+impl TryClone for NodeProp {
+    fn try_clone(&self) -> Result<NodeProp, Mem> {
+        Ok(NodeProp {
+            key: self.key.try_clone()?,
+            store: self.store.try_clone()?,
+            default: self.default,
+        })
+    }
 }
 
 /// A projected label and the nodes that get it.

@@ -1,7 +1,10 @@
 // Laws of the definitions, each the contract of a function that does nothing.
-ghost use Rattle.std.specs.Prelude.{◌≡◌, pos, negsuc, false, true, [], ◌∷◌, length, codes, Ok, Err};
+ghost use Rattle.std.specs.Prelude.{◌≡◌, pos, negsuc, false, true, [], ◌∷◌, length, codes, Ok, Err, Some, None};
+ghost use Rattle.serde_json.specs.Data.{string, number, unsigned, null};
+ghost use Rattle.graph_model.specs.declared.refusal.Refusal.TheVariants.{MixedAggregation};
 ghost use Rattle.projection_spec.specs.KeptArcs.{kept_arcs};
 ghost use Rattle.projection_spec.specs.WorkedRows.{key_w, type_r, count_all, each_rule, small_arcs, small_kept, kept, one_arc};
+ghost use Rattle.projection_spec.specs.JsonRows.{list, fields, field, node_prop_row, node_row, rel_prop_row, rel_row, nodes_spec, nodes_refused, rels_spec, rels_refused, of_nodes, of_rels, plain, wrong, type_r_said, w_by};
 
 use crate::entries::Rule;
 use graph_model::Orientation;
@@ -25,4 +28,58 @@ pub fn worked_rows()
     ensures great { kept_arcs (type_r Orientation.Natural true (key_w (codes "w") Rule.Sum ∷ []))
         (one_arc 0 (pos 9223372036854775807) ∷ one_arc 1 (pos 1) ∷ one_arc 2 (negsuc 0) ∷ [])
         ≡ Ok (kept 0 1 0 (pos 9223372036854775807 ∷ []) ∷ []) }
+{}
+
+/// What the arguments of a projection mean, for the nodes.
+pub fn node_rows()
+    ensures star { nodes_spec (string (codes "*")) plain ≡ of_nodes (node_row (codes "__ALL__") None [] ∷ []) }
+    ensures text { nodes_spec (string (codes "A")) plain ≡ of_nodes (node_row (codes "A") (Some (codes "A")) [] ∷ []) }
+    ensures list { nodes_spec (list (string (codes "B") ∷ string (codes "A") ∷ string (codes "*") ∷ [])) plain
+        ≡ of_nodes (node_row (codes "A") (Some (codes "A")) [] ∷ node_row (codes "B") (Some (codes "B")) [] ∷ node_row (codes "__ALL__") None [] ∷ []) }
+    ensures every_node { nodes_spec (field (codes "A") (string (codes "*"))) plain ≡ of_nodes (node_row (codes "A") None [] ∷ []) }
+    ensures other_label { nodes_spec (field (codes "A") (field (codes "label") (string (codes "B")))) plain
+        ≡ of_nodes (node_row (codes "A") (Some (codes "B")) [] ∷ []) }
+    ensures no_label { nodes_spec (field (codes "__ALL__") (fields [])) plain ≡ of_nodes (node_row (codes "__ALL__") (Some (codes "__ALL__")) [] ∷ []) }
+    ensures keys { nodes_spec (field (codes "A") (field (codes "properties") (fields (
+        (codes "a", string (codes "w")) ∷ (codes "b", fields ((codes "defaultValue", number (unsigned 7)) ∷ [])) ∷ [])))) plain
+        ≡ of_nodes (node_row (codes "A") (Some (codes "A")) (
+        node_prop_row (codes "a") (codes "w") None ∷ node_prop_row (codes "b") (codes "b") (Some (pos 7)) ∷ []) ∷ []) }
+    ensures added { nodes_spec (field (codes "A") (field (codes "properties") (field (codes "b") (string (codes "w")))))
+        (field (codes "nodeProperties") (list (string (codes "b") ∷ string (codes "a") ∷ [])))
+        ≡ of_nodes (node_row (codes "A") (Some (codes "A")) (
+        node_prop_row (codes "a") (codes "a") None ∷ node_prop_row (codes "b") (codes "w") None ∷ []) ∷ []) }
+    ensures one_label { nodes_refused (list (string (codes "*") ∷ string (codes "__ALL__") ∷ [])) plain ≡ wrong (codes "nodeProjection") }
+    ensures star_as_name { nodes_refused (field (codes "*") (fields [])) plain ≡ wrong (codes "nodeProjection") }
+    ensures no_entry { nodes_refused (list []) plain ≡ wrong (codes "nodeProjection") }
+    ensures other_field { nodes_refused (field (codes "A") (field (codes "type") (string (codes "A")))) plain ≡ wrong (codes "nodeProjection") }
+    ensures great_default { nodes_refused (field (codes "A") (field (codes "properties") (field (codes "a")
+        (field (codes "defaultValue") (number (unsigned 9223372036854775808)))))) plain ≡ wrong (codes "nodeProjection") }
+    ensures wrong_added { nodes_refused (string (codes "*")) (field (codes "nodeProperties") (string (codes "*"))) ≡ wrong (codes "configuration.nodeProperties") }
+    ensures no_config { nodes_refused (string (codes "*")) null ≡ wrong (codes "configuration") }
+{}
+
+/// What the arguments of a projection mean, for the relationships.
+pub fn rel_rows()
+    ensures words { rels_spec (type_r_said ((codes "aggregation", string (codes "mAx")) ∷ (codes "orientation", string (codes "uNDIRECTed")) ∷ (codes "properties", string (codes "w")) ∷ [])) plain
+        ≡ of_rels (rel_row (codes "R") (Some (codes "R")) Orientation.Undirected true (rel_prop_row (codes "w") (Some (codes "w")) None Rule.Max ∷ []) ∷ []) }
+    ensures no_key { rels_spec (type_r_said ((codes "aggregation", string (codes "SINGLE")) ∷ [])) plain
+        ≡ of_rels (rel_row (codes "R") (Some (codes "R")) Orientation.Natural true [] ∷ []) }
+    ensures counted { rels_spec (type_r_said ((codes "aggregation", string (codes "COUNT")) ∷ (codes "properties", field (codes "c") (string (codes "*"))) ∷ [])) plain
+        ≡ of_rels (rel_row (codes "R") (Some (codes "R")) Orientation.Natural true (rel_prop_row (codes "c") None None Rule.Count ∷ []) ∷ []) }
+    ensures mixed { rels_refused (type_r_said ((codes "properties", fields ((codes "a", w_by (codes "NONE")) ∷ (codes "b", w_by (codes "MAX")) ∷ [])) ∷ [])) plain
+        ≡ Some (MixedAggregation (codes "R")) }
+    ensures given_none { rels_refused (type_r_said ((codes "aggregation", string (codes "NONE")) ∷ (codes "properties", field (codes "b") (w_by (codes "MAX"))) ∷ [])) plain
+        ≡ Some (MixedAggregation (codes "R")) }
+    ensures none_given { rels_spec (type_r_said ((codes "properties", field (codes "b") (w_by (codes "MAX"))) ∷ [])) plain
+        ≡ of_rels (rel_row (codes "R") (Some (codes "R")) Orientation.Natural true (rel_prop_row (codes "b") (Some (codes "w")) None Rule.Max ∷ []) ∷ []) }
+    ensures star_key { rels_refused (type_r_said ((codes "aggregation", string (codes "COUNT")) ∷ (codes "properties", string (codes "*")) ∷ [])) plain
+        ≡ wrong (codes "relationshipProjection") }
+    ensures star_alone { rels_refused (type_r_said ((codes "properties", field (codes "c") (string (codes "*"))) ∷ [])) plain ≡ wrong (codes "relationshipProjection") }
+    ensures no_word { rels_refused (type_r_said ((codes "aggregation", string (codes "DEFAULT")) ∷ [])) plain ≡ wrong (codes "relationshipProjection") }
+    ensures added { rels_spec (string (codes "R")) (field (codes "relationshipProperties") (field (codes "b") (w_by (codes "sum"))))
+        ≡ of_rels (rel_row (codes "R") (Some (codes "R")) Orientation.Natural true (rel_prop_row (codes "b") (Some (codes "w")) None Rule.Sum ∷ []) ∷ []) }
+    ensures star_added { rels_refused (string (codes "R")) (field (codes "relationshipProperties") (field (codes "c") (string (codes "*"))))
+        ≡ wrong (codes "configuration.relationshipProperties") }
+    ensures mixed_by_added { rels_refused (type_r_said ((codes "aggregation", string (codes "SUM")) ∷ [])) (field (codes "relationshipProperties") (field (codes "b") (w_by (codes "none"))))
+        ≡ Some (MixedAggregation (codes "R")) }
 {}
