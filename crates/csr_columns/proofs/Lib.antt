@@ -6,3 +6,4 @@ pub mod Grouping
 pub mod Listing
 pub mod Shown
 pub mod TurnedRows
+pub mod PartsRead

@@ -3,3 +3,4 @@ pub mod Rows
 pub mod Offsets
 pub mod Laws
 pub mod Order
+pub mod Parts

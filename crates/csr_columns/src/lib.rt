@@ -6,6 +6,10 @@ mod counting;
 mod csr;
 pub mod laws;
 mod ordering;
+mod parts;
+mod projection;
 mod turning;
 
 pub use csr::Csr;
+pub use parts::{Parts, TypeColumns};
+pub use projection::Projection;
