@@ -7,3 +7,7 @@ pub mod Listing
 pub mod Shown
 pub mod TurnedRows
 pub mod PartsRead
+pub mod Increasing
+pub mod WithColumn
+pub mod ViewArcs
+pub mod Renumbering

@@ -4,3 +4,7 @@ pub mod Offsets
 pub mod Laws
 pub mod Order
 pub mod Parts
+pub mod Plain
+pub mod ViewParts
+pub mod Keeping
+pub mod Choosing

@@ -1,7 +1,7 @@
 // Slices of columns: cut into rows, picked by places, and found under keys.
 ghost use Rattle.std.specs.Prelude.{◌≡◌, ◌+◌, ◌<◌, length, map, All, MatchOption, IfOk, option_copied, slice_index_or};
 ghost use Rattle.std.specs.List.{zip};
-ghost use Rattle.graph_model.specs.Projection.{under};
+ghost use Rattle.graph_model.specs.Projection.{is_among, under};
 ghost use Rattle.csr_columns.specs.Offsets.{CutsRows, IsFirstNamed, IsUnnamed, cut_row, item_at, picked_column};
 
 use graph_model::{List, Mem, Name, Shared};
@@ -29,6 +29,13 @@ pub(crate) fn place_of(names: &[Name], name: &Name) -> Option<usize>
         }
     }
     None
+}
+
+/// Whether a name is one of some names.
+pub(crate) fn is_among(names: &[Name], name: &Name) -> bool
+    ensures { result ≡ is_among names.now name.now }
+{
+    place_of(names, name).is_some()
 }
 
 /// The names and the columns of pairs, each in their order.
@@ -79,11 +86,11 @@ pub(crate) fn column_under<'a, T>(
 
 /// The item at a place.
 #[inline]
-pub(crate) fn item<T: Copy + Drop>(items: &[T], place: u32) -> T
+pub(crate) fn item<T: Copy + Drop>(items: &[T], place: usize) -> T
     requires { place < length items.now }
     ensures { (d : T) → result ≡ slice_index_or items.now place d }
 {
-    items[place as usize]
+    items[place]
 }
 
 /// The items at places, in the order of the places.

@@ -1,6 +1,7 @@
 //! Rows of arcs in columns: the arcs of a property graph by their source, with a column of values per key.
 #![tactic(auto)]
 
+mod adding;
 mod columns;
 mod counting;
 mod csr;

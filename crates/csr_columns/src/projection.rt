@@ -1,13 +1,15 @@
 // Projections: nodes with labels and values, and arcs by type, in columns.
-ghost use Rattle.std.specs.Prelude.{◌≡◌, ◌<◌, ◌≤◌, length, IfOk, All};
+ghost use Rattle.std.specs.Prelude.{◌≡◌, ◌<◌, ◌≤◌, true, false, length, IfOk, IfErr, OnOk, All};
 ghost use Rattle.std.specs.List.Sorted.{IsStrictlyIncreasing};
-ghost use Rattle.graph_model.specs.Projection.{most_arcs};
+ghost use Rattle.graph_model.specs.Projection.{most_arcs, is_among, with_column};
 ghost use Rattle.graph_model.specs.Graph.{most_nodes};
+ghost use Rattle.graph_model.specs.Refusals.{UnlessMem};
 ghost use Rattle.csr_columns.specs.Parts.{FitTogether, HasNodes, names_of, arcs_in, flag_at, value_at};
+ghost use Rattle.csr_columns.specs.Plain.{plain, parts_with_column};
 
-use crate::columns;
 use crate::parts::{Parts, TypeColumns};
-use graph_model::{List, Mem, Name, Shared};
+use crate::{adding, columns};
+use graph_model::{Column, List, Mem, Name, Refusal, Shared, TryClone};
 use std::alloc::Global;
 use std::marker::Model;
 
@@ -105,7 +107,7 @@ impl Projection {
         ensures { result ≡ value_at self.now.columns key.now v }
     {
         match columns::column_under(self.keys.as_slice(), self.columns.as_slice(), key) {
-            Some(column) => Some(columns::item(column, v)),
+            Some(column) => Some(columns::item(column, v as usize)),
             None => None,
         }
     }
@@ -129,5 +131,49 @@ impl Projection {
             count += u64::from(kind.arcs.get().arc_count());
         }
         count
+    }
+
+    /// The projection with one more column. All that it had is shared with it, and the column's key stands in its order.
+    ///
+    /// # Errors
+    /// `PropertyExists` exactly where the key is there, or `Mem`.
+    pub fn with_column(
+        &self,
+        alloc: Global,
+        key: Name,
+        column: &Column,
+    ) -> Result<Projection, Refusal>
+        ensures ok { IfOk result (λ wider. plain wider ≡ with_column (plain self.now) key column.now) }
+        ensures columns { IfOk result (λ wider. wider ≡ parts_with_column self.now key column.now) }
+        ensures missing { OnOk result (is_among (names_of self.now.columns) key ≡ false) }
+        ensures refused { IfErr result (λ why. UnlessMem why ((why ≡ Refusal.PropertyExists key) × (is_among (names_of self.now.columns) key ≡ true))) }
+    {
+        if columns::is_among(self.keys(), &key) {
+            return Err(Refusal::PropertyExists { key });
+        }
+        match self.wider(alloc, key, column) {
+            Ok(wider) => Ok(wider),
+            Err(_mem) => Err(Refusal::Mem),
+        }
+    }
+
+    // The projection with one more column, whose key isn't there yet.
+    fn wider(&self, alloc: Global, key: Name, column: &Column) -> Result<Projection, Mem>
+        requires { is_among (names_of self.now.columns) key ≡ false }
+        ensures { IfOk result (λ wider. wider ≡ parts_with_column self.now key column.now) }
+    {
+        let place = adding::place_among(self.keys.as_slice(), &key);
+        let values = adding::values_for(alloc, self.ids.get().as_slice(), column)?;
+        let keys = adding::inserted(self.keys.try_clone()?, place, key)?;
+        let shared = Shared::new(alloc, values)?;
+        let columns = adding::inserted(self.columns.try_clone()?, place, shared)?;
+        Ok(Projection {
+            ids: self.ids.try_clone()?,
+            labels: self.labels.try_clone()?,
+            flags: self.flags.try_clone()?,
+            keys,
+            columns,
+            types: self.types.try_clone()?,
+        })
     }
 }
