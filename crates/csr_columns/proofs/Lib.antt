@@ -9,5 +9,7 @@ pub mod TurnedRows
 pub mod PartsRead
 pub mod Increasing
 pub mod WithColumn
+pub mod Chosen
+pub mod Gathered
 pub mod ViewArcs
 pub mod Renumbering

@@ -7,7 +7,8 @@ use Rattle.std.specs.Str.{bytes_eq}
 use Rattle.std.proofs.lemmas.Bool.{cases_Bool, cond-true, cond-false}
 use Rattle.std.proofs.lemmas.List.Elements.{All-head, All-tail}
 use Rattle.graph_model.specs.Projection.{under}
-use Rattle.csr_columns.specs.Parts.{columns_of, names_of, parts_shown, FitTogether, AreColumns}
+use Rattle.csr_columns.specs.Rows.{names_of}
+use Rattle.csr_columns.specs.Parts.{columns_of, parts_shown, FitTogether, AreColumns}
 
 -- what holds of each column holds of the one under a name
 pub All-under : {A : Type 0} (P : A → Type 0) (name : List ℕ) (entries : List (List ℕ × A)) (x : A) → All P (columns_of entries) → Some x ≡ under name entries → P x

@@ -23,7 +23,8 @@ use Rattle.graph_model.specs.Projection.{value_for, with_column, node_with_colum
 use Rattle.graph_model.specs.declared.graph.Column.{Column}
 use Rattle.csr_columns.specs.declared.parts.Parts.{Parts}
 use Rattle.csr_columns.specs.declared.parts.TypeColumns.{TypeColumns}
-use Rattle.csr_columns.specs.Parts.{IsLong, names_of, parts_shown, AreColumns, FitTogether}
+use Rattle.csr_columns.specs.Rows.{names_of}
+use Rattle.csr_columns.specs.Parts.{IsLong, parts_shown, AreColumns, FitTogether}
 use Rattle.csr_columns.specs.Plain.{plain, plain_node, labels_at, value_of, values_at, parts_with_column}
 use Rattle.csr_columns.proofs.Increasing.{increasing-less}
 use Rattle.csr_columns.proofs.OffsetRows.{map-range_agree}

@@ -9,7 +9,8 @@ use Rattle.graph_model.specs.declared.graph.Choice.{Choice}
 use Rattle.graph_model.specs.declared.graph.Choice.TheVariants.{All, Of}
 use Rattle.graph_model.specs.Projection.{is_among}
 use Rattle.graph_model.specs.View.{is_undirected}
-use Rattle.csr_columns.specs.Parts.{names_of, kind_of}
+use Rattle.csr_columns.specs.Rows.{names_of}
+use Rattle.csr_columns.specs.Parts.{kind_of}
 use Rattle.csr_columns.specs.Plain.{labels_at}
 use Rattle.csr_columns.specs.declared.parts.TypeColumns.{TypeColumns}
 

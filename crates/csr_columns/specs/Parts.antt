@@ -10,7 +10,7 @@ use Rattle.graph_model.specs.Lists.{Pairwise}
 use Rattle.graph_model.specs.Names.{IsBefore}
 use Rattle.graph_model.specs.Projection.{most_arcs, missing_value, under}
 use Rattle.graph_model.specs.Graph.{most_nodes}
-use Rattle.csr_columns.specs.Rows.{ArcRows}
+use Rattle.csr_columns.specs.Rows.{ArcRows, names_of}
 use Rattle.csr_columns.specs.declared.parts.Parts.{Parts}
 use Rattle.csr_columns.specs.declared.parts.TypeColumns.{TypeColumns}
 
@@ -29,10 +29,6 @@ arcs_in types = sum_by arcs_in_type types
 -- the name of a type
 abbrev pub kind_of : TypeColumns → List ℕ
 kind_of type = type.kind
-
--- the names that stand before columns
-abbrev pub names_of : {A : Type 0} → List (List ℕ × A) → List (List ℕ)
-names_of columns = map (λ column. column.0) columns
 
 -- the rows of a type are those of so many nodes
 abbrev pub HasNodes : ℕ → TypeColumns → Type 0

@@ -9,7 +9,7 @@ use Rattle.std.specs.List.{range_with_len, enumerate_from, insert}
 use Rattle.graph_model.specs.Projection.{ProjectedNode, ProjectedArc, ProjectedType, PlainProjection, missing_value, place_among, value_for}
 use Rattle.graph_model.specs.declared.graph.Column.{Column}
 use Rattle.csr_columns.specs.Rows.{ArcRows, arcs_of, listed_column}
-use Rattle.csr_columns.specs.Parts.{names_of}
+use Rattle.csr_columns.specs.Rows.{names_of}
 use Rattle.csr_columns.specs.declared.parts.Parts.{Parts}
 use Rattle.csr_columns.specs.declared.parts.TypeColumns.{TypeColumns}
 

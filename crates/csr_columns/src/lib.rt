@@ -2,9 +2,12 @@
 #![tactic(auto)]
 
 mod adding;
+mod choosing;
 mod columns;
 mod counting;
 mod csr;
+mod gathering;
+mod keeping;
 pub mod laws;
 mod ordering;
 mod parts;

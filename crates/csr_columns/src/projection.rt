@@ -4,7 +4,8 @@ ghost use Rattle.std.specs.List.Sorted.{IsStrictlyIncreasing};
 ghost use Rattle.graph_model.specs.Projection.{most_arcs, is_among, with_column};
 ghost use Rattle.graph_model.specs.Graph.{most_nodes};
 ghost use Rattle.graph_model.specs.Refusals.{UnlessMem};
-ghost use Rattle.csr_columns.specs.Parts.{FitTogether, HasNodes, names_of, arcs_in, flag_at, value_at};
+ghost use Rattle.csr_columns.specs.Rows.{names_of};
+ghost use Rattle.csr_columns.specs.Parts.{FitTogether, HasNodes, arcs_in, flag_at, value_at};
 ghost use Rattle.csr_columns.specs.Plain.{plain, parts_with_column};
 
 use crate::parts::{Parts, TypeColumns};

@@ -1,6 +1,6 @@
 use Rattle.std.proofs.Common.{ap, sym, ◌∙◌}
 use Rattle.std.proofs.lemmas.Slice.Zip.{firsts-zip}
-use Rattle.csr_columns.specs.Parts.{names_of}
+use Rattle.csr_columns.specs.Rows.{names_of}
 use Rattle.csr_columns.specs.declared.parts.Parts.{Parts}
 use Rattle.csr_columns.proofs.projection.Projection.labels.Goals as goal
 
