@@ -6,3 +6,10 @@ pub mod Grouping
 pub mod Listing
 pub mod Shown
 pub mod TurnedRows
+pub mod PartsRead
+pub mod Increasing
+pub mod WithColumn
+pub mod Chosen
+pub mod Gathered
+pub mod ViewArcs
+pub mod Renumbering

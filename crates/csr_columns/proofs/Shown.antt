@@ -1,5 +1,5 @@
 -- What the columns of rows show.
-use Rattle.std.proofs.Common.{◌≡◌, ◌≢◌, ℕ, ℤ, ◌+◌, ◌-◌, ◌<◌, ◌≤◌, cond, List, [], ◌∷◌, length, map, get_or, take, drop, slice_index, Option, Some, None, MatchOption, refl, sym, ap, ◌∙◌, subst, zero, suc, true, false, arith}
+use Rattle.std.proofs.Common.{◌≡◌, ◌≢◌, ℕ, ℤ, ◌+◌, ◌-◌, ◌<◌, ◌≤◌, cond, List, [], ◌∷◌, length, map, get_or, take, drop, slice_index, Option, Some, None, MatchOption, IfSome, refl, sym, ap, ◌∙◌, subst, zero, suc, true, false, arith}
 use Rattle.std.specs.List.{All, sum_by, zip}
 use Rattle.std.specs.Str.{bytes_eq}
 use Rattle.std.specs.Cmp.Lexicographic.{bytes_decides}
@@ -9,7 +9,7 @@ use Rattle.std.proofs.lemmas.List.FromFn.{length-map-range_with_len}
 use Rattle.std.proofs.lemmas.Slice.Zip.{length-zip, get_or-zip, firsts-zip}
 use Rattle.std.proofs.lemmas.Bool.{cond-true, cond-false, false_from_ne_true}
 use Rattle.graph_model.specs.Projection.{under}
-use Rattle.csr_columns.specs.Rows.{ArcRows, row_at, column_at}
+use Rattle.csr_columns.specs.Rows.{ArcRows, IsBeside, row_at, column_at}
 use Rattle.csr_columns.specs.Offsets.{cut_row, cut_rows, shown, IsUnnamed, IsFirstNamed, CutsRows, AreRows}
 use Rattle.csr_columns.proofs.OffsetRows.{length-cut_rows, row_at-cut_rows, listed-cut_rows, offsets_of_row}
 
@@ -73,3 +73,24 @@ pub values-shown : (offsets targets : List ℕ) (keys : List (List ℕ)) (column
 values-shown offsets targets keys columns place v column named h read within =
     sym (row_at-cut_rows offsets column v within)
     ∙ ap (λ (rows : List (List ℤ)). row_at rows v) (ap (cut_rows offsets) read ∙ sym (column_at-shown offsets targets keys columns place column named h))
+
+-- a column of rows has a value beside each target
+pub beside-shown : (offsets targets : List ℕ) (keys : List (List ℕ)) (columns : List (List ℤ)) (place : ℕ) → AreRows offsets targets keys columns → place < length columns → IsBeside (shown offsets targets keys columns).rows (column_at (shown offsets targets keys columns).columns place)
+beside-shown offsets targets keys columns place are h =
+    let column : List ℤ = get_or columns place [] in
+    let read : column_at (shown offsets targets keys columns).columns place ≡ cut_rows offsets column = column_at-shown offsets targets keys columns place [] are.named h in
+    let long : length column ≡ length targets = are.beside place [] h in
+    subst (IsBeside (cut_rows offsets targets)) (sym read)
+    (record {
+      many = length-cut_rows offsets column ∙ sym (length-cut_rows offsets targets);
+      long = λ v v_in.
+          let within : v + 1 < length offsets = omega (arith, length-cut_rows offsets targets) in
+          ap (λ (xs : List ℤ). length xs) (row_at-cut_rows offsets column v within)
+          ∙ length-cut_row offsets column targets v long
+          ∙ sym (ap (λ (xs : List ℕ). length xs) (row_at-cut_rows offsets targets v within));
+    })
+
+-- the same of the place of a key
+pub beside-found : (offsets targets : List ℕ) (keys : List (List ℕ)) (columns : List (List ℤ)) (key : List ℕ) (place : Option ℕ) → AreRows offsets targets keys columns → MatchOption place (IsUnnamed keys key (length keys)) (IsFirstNamed keys key) → IfSome place (λ p. IsBeside (shown offsets targets keys columns).rows (column_at (shown offsets targets keys columns).columns p))
+beside-found offsets targets keys columns key None are absent = tt
+beside-found offsets targets keys columns key (Some place) are first = beside-shown offsets targets keys columns place are (omega (arith, first.0, are.named))

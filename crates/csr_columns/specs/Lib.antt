@@ -3,3 +3,8 @@ pub mod Rows
 pub mod Offsets
 pub mod Laws
 pub mod Order
+pub mod Parts
+pub mod Plain
+pub mod ViewParts
+pub mod Keeping
+pub mod Choosing

@@ -1,5 +1,6 @@
 -- Rows of arcs, with values beside them.
 --   ArcRows                        per node the targets of its arcs, and per key the values beside them
+--   names_of columns               the names that stand before columns
 --   LiesBelow nodes arc            both ends of an arc lie below a number of nodes
 --   arc_cmp                        the order of arcs: by source, then by target
 --   AreDistinct names              no name stands twice in a list
@@ -11,12 +12,17 @@
 --   row_in column v                the row of a node in a column, where there is one
 --   arcs_of rows                   the arcs of rows
 --   listed rows                    the items of rows, one row after another
+--   IsBeside rows column           a column has a value beside each target of rows
 --   turned_rows rows               every arc turned, and the values with it
-use Rattle.std.specs.Prelude.{ℕ, ℤ, ◌<◌, ◌≢◌, Bool, Option, Some, None, List, [], ◌∷◌, length, map, filter, slice_index_or, AllPairs}
+use Rattle.std.specs.Prelude.{◌≡◌, ℕ, ℤ, ◌<◌, ◌≢◌, Bool, Option, Some, None, List, [], ◌∷◌, length, map, filter, slice_index_or, AllPairs}
 use Rattle.std.specs.declared.cmp.Ordering.{Ordering}
 use Rattle.std.specs.Ordering.{nat_cmp, ordering_then}
 use Rattle.std.specs.List.{range_with_len, flat_map, zip}
 use Rattle.graph_model.specs.Arcs.{leaves, targets_of}
+
+-- the names that stand before columns
+abbrev pub names_of : {A : Type 0} → List (List ℕ × A) → List (List ℕ)
+names_of columns = map (λ column. column.0) columns
 
 -- per node the targets of its arcs, and per key the values beside them
 pub record ArcRows : Type 0 where
@@ -95,3 +101,8 @@ turned arc = (arc.1, arc.0)
 -- every arc turned, and the values with it: arcs that are turned to one node stand in the order of the arcs
 abbrev pub turned_rows : ArcRows → ArcRows
 turned_rows arcs = arc_rows_of (length arcs.rows) (map turned (arcs_of arcs.rows)) (map listed_column arcs.columns)
+
+-- a column has a value beside each target of rows
+pub record IsBeside (rows : List (List ℕ)) (column : List (List ℤ)) : Type 0 where
+  pub many : length column ≡ length rows
+  pub long : (v : ℕ) → v < length rows → length (row_at column v) ≡ length (row_at rows v)

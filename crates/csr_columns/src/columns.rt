@@ -1,8 +1,10 @@
 // Slices of columns: cut into rows, picked by places, and found under keys.
-ghost use Rattle.std.specs.Prelude.{◌≡◌, ◌+◌, ◌<◌, length, map, All, MatchOption, IfOk};
+ghost use Rattle.std.specs.Prelude.{◌≡◌, ◌+◌, ◌<◌, length, map, All, MatchOption, IfOk, option_copied, slice_index_or};
+ghost use Rattle.std.specs.List.{zip};
+ghost use Rattle.graph_model.specs.Projection.{is_among, under};
 ghost use Rattle.csr_columns.specs.Offsets.{CutsRows, IsFirstNamed, IsUnnamed, cut_row, item_at, picked_column};
 
-use graph_model::{List, Mem, Name};
+use graph_model::{List, Mem, Name, Shared};
 use std::alloc::Global;
 
 /// The row of `v` in a list that offsets cut into rows.
@@ -29,11 +31,18 @@ pub(crate) fn place_of(names: &[Name], name: &Name) -> Option<usize>
     None
 }
 
-/// The keys and the columns of pairs, each in their order.
-pub(crate) fn apart(
+/// Whether a name is one of some names.
+pub(crate) fn is_among(names: &[Name], name: &Name) -> bool
+    ensures { result ≡ is_among names.now name.now }
+{
+    place_of(names, name).is_some()
+}
+
+/// The names and the columns of pairs, each in their order.
+pub(crate) fn apart<T: Drop>(
     alloc: Global,
-    props: List<(Name, List<i64>)>,
-) -> Result<(List<Name>, Vec<List<i64>>), Mem>
+    props: List<(Name, T)>,
+) -> Result<(List<Name>, Vec<T>), Mem>
     ensures keys { IfOk result (λ parts. parts.0 ≡ map (λ prop. prop.0) props) }
     ensures columns { IfOk result (λ parts. parts.1.items ≡ map (λ prop. prop.1) props) }
 {
@@ -44,6 +53,44 @@ pub(crate) fn apart(
         columns.push(column)?;
     }
     Ok((keys, columns))
+}
+
+/// The same columns, each shared from now on.
+pub(crate) fn share_each<T: Drop>(
+    alloc: Global,
+    columns: Vec<List<T>>,
+) -> Result<List<Shared<List<T>>>, Mem>
+    ensures { IfOk result (λ shared. shared ≡ columns.items) }
+{
+    let mut shared = List::new(alloc);
+    for column in columns {
+        shared.push(Shared::new(alloc, column)?)?;
+    }
+    Ok(shared)
+}
+
+/// The column under a name, `None` where there is none.
+pub(crate) fn column_under<'a, T>(
+    names: &[Name],
+    columns: &'a [Shared<List<T>>],
+    name: &Name,
+) -> Option<&'a [T]>
+    requires { length columns.now ≡ length names.now }
+    ensures { option_copied result ≡ under name.now (zip names.now columns.now) }
+{
+    match place_of(names, name) {
+        Some(place) => Some(columns[place].get().as_slice()),
+        None => None,
+    }
+}
+
+/// The item at a place.
+#[inline]
+pub(crate) fn item<T: Copy + Drop>(items: &[T], place: usize) -> T
+    requires { place < length items.now }
+    ensures { (d : T) → result ≡ slice_index_or items.now place d }
+{
+    items[place]
 }
 
 /// The items at places, in the order of the places.

@@ -1,10 +1,10 @@
 // Arcs by source, in columns.
-ghost use Rattle.std.specs.Prelude.{◌≡◌, ◌^◌, ◌<◌, [], length, map, sum_by, All, MatchOption, IfOk, None, Some, option_copied};
+ghost use Rattle.std.specs.Prelude.{◌≡◌, ◌^◌, ◌<◌, [], length, map, sum_by, All, MatchOption, IfOk, IfSome, None, Some, option_copied};
 ghost use Rattle.std.specs.List.{zip};
 ghost use Rattle.std.specs.List.Sorted.{IsSorted};
-ghost use Rattle.csr_columns.specs.Rows.{LiesBelow, AreDistinct, arc_cmp, arc_rows_of, row_at, column_at, row_in, arcs_of, listed_column, turned_rows};
+ghost use Rattle.csr_columns.specs.Rows.{IsBeside, names_of, LiesBelow, AreDistinct, arc_cmp, arc_rows_of, row_at, column_at, row_in, arcs_of, listed_column, turned_rows};
 ghost use Rattle.csr_columns.specs.Order.{ordered, ordered_column, itself};
-ghost use Rattle.graph_model.specs.Projection.{under};
+ghost use Rattle.graph_model.specs.Projection.{is_among, under};
 
 use crate::ordering::{self, Order};
 use crate::turning::{self, Turning};
@@ -148,9 +148,17 @@ impl Csr {
         self.keys.as_slice()
     }
 
+    /// Whether there is a column under a key.
+    pub(crate) fn has_key(&self, key: &Name) -> bool
+        ensures { result ≡ is_among (names_of self.now.columns) key.now }
+    {
+        columns::is_among(self.keys(), key)
+    }
+
     /// The place of a key among the keys, `None` where there is no such key.
     pub fn place_of(&self, key: &Name) -> Option<usize>
-        ensures { MatchOption result (under key.now self.now.columns ≡ None) (λ place. (place < length self.now.columns) × (under key.now self.now.columns ≡ Some (column_at self.now.columns place))) }
+        ensures place { MatchOption result (under key.now self.now.columns ≡ None) (λ place. (place < length self.now.columns) × (under key.now self.now.columns ≡ Some (column_at self.now.columns place))) }
+        ensures beside { IfSome result (λ place. IsBeside self.now.rows (column_at self.now.columns place)) }
     {
         columns::place_of(self.keys.as_slice(), key)
     }
