@@ -7,7 +7,7 @@
 use Rattle.std.specs.Prelude.{◌≡◌, ◌≢◌, ℕ, ◌==◌, Bool, List, [], ◌∷◌, ◌++◌, filter}
 use Rattle.desk_model.specs.declared.asked.Event.{Event}
 use Rattle.desk_model.specs.declared.asked.Event.TheVariants.{Change, StoreRows}
-use Rattle.desk_model.specs.State.{Part, State, part_of, with_part}
+use Rattle.desk_model.specs.State.{State, part_of, with_part}
 use Rattle.desk_model.specs.Replies.{PlainReply}
 use Rattle.desk_model.specs.Step.{step, mark_of, is_fault, MayStand, IsWellFormed, IsReady}
 

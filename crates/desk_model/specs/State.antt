@@ -5,7 +5,7 @@
 --   part_of state user      the part of a user
 --   with_part state user p  a state with another part for a user
 --   SameState               two states with the same graph and the same lists for each user
-use Rattle.std.specs.Prelude.{◌≡◌, ℕ, Bool, if◌then◌else◌, List, [], Option}
+use Rattle.std.specs.Prelude.{◌≡◌, ℕ, Bool, if◌then◌else◌, List, []}
 use Rattle.std.specs.Str.{bytes_eq}
 use Rattle.graph_model.specs.declared.graph.PropertyGraph.{PropertyGraph}
 use Rattle.graph_model.specs.declared.change.ChangeReply.{ChangeReply}

@@ -1,6 +1,5 @@
 -- The table of steps, evaluated on a small store.
-use Rattle.std.specs.Prelude.{ℤ, pos, ℕ, List, [], ◌∷◌, codes, Option, Some, None}
-use Rattle.graph_model.specs.declared.graph.PropertyGraph.{PropertyGraph}
+use Rattle.std.specs.Prelude.{pos, [], ◌∷◌, codes, Some, None}
 use Rattle.graph_model.specs.declared.graph.Choice.TheVariants.{All}
 use Rattle.graph_model.specs.declared.change.Change.TheVariants as change
 use Rattle.graph_model.specs.declared.change.ChangeReply.TheVariants.{Created}
