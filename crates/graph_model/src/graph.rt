@@ -3,6 +3,7 @@ ghost use Rattle.std.specs.Prelude.{◌≡◌, length};
 ghost use Rattle.std.specs.List.Sorted.{IsStrictlyIncreasing};
 
 use crate::list::List;
+use crate::memory::{Mem, TryClone};
 use crate::name::Name;
 
 /// A key and its value.
@@ -66,4 +67,46 @@ pub struct Column {
     pub values: List<i64>,
     pub ghost ascending: { IsStrictlyIncreasing ids },
     pub ghost paired: { length values ≡ length ids },
+}
+
+impl TryClone for Prop {
+    fn try_clone(&self) -> Result<Prop, Mem> {
+        Ok(Prop {
+            key: self.key.try_clone()?,
+            value: self.value,
+        })
+    }
+}
+
+impl TryClone for Node {
+    fn try_clone(&self) -> Result<Node, Mem> {
+        Ok(Node {
+            id: self.id,
+            labels: self.labels.try_clone()?,
+            props: self.props.try_clone()?,
+        })
+    }
+}
+
+impl TryClone for Rel {
+    fn try_clone(&self) -> Result<Rel, Mem> {
+        Ok(Rel {
+            id: self.id,
+            source: self.source,
+            target: self.target,
+            kind: self.kind.try_clone()?,
+            props: self.props.try_clone()?,
+        })
+    }
+}
+
+impl TryClone for PropertyGraph {
+    fn try_clone(&self) -> Result<PropertyGraph, Mem> {
+        Ok(PropertyGraph {
+            nodes: self.nodes.try_clone()?,
+            rels: self.rels.try_clone()?,
+            next_node: self.next_node,
+            next_rel: self.next_rel,
+        })
+    }
 }

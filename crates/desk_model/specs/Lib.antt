@@ -1,0 +1,6 @@
+-- The machine: its state, its steps and its histories.
+pub mod State
+pub mod Replies
+pub mod Step
+pub mod History
+pub mod WorkedRows

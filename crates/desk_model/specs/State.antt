@@ -1,0 +1,66 @@
+-- The state of the machine: one graph, and lists of each user.
+--   UserLists               what is kept for a user
+--   Part                    the part of a user in a state: the graph, and the user's lists
+--   State                   one graph, and for each user their lists
+--   part_of state user      the part of a user
+--   with_part state user p  a state with another part for a user
+--   SameState               two states with the same graph and the same lists for each user
+use Rattle.std.specs.Prelude.{◌≡◌, ℕ, Bool, if◌then◌else◌, List, []}
+use Rattle.std.specs.Str.{bytes_eq}
+use Rattle.graph_model.specs.declared.graph.PropertyGraph.{PropertyGraph}
+use Rattle.graph_model.specs.declared.change.ChangeReply.{ChangeReply}
+use Rattle.graph_model.specs.Projection.{PlainProjection}
+
+-- a named graph: its name, its version and its projection
+pub record NamedGraph : Type 0 where
+  pub name : List ℕ
+  pub version : ℕ
+  pub graph : PlainProjection
+
+-- a job: its number, its name, whether it was asked to end, how many batches it has done and how many values they set
+pub record Job : Type 0 where
+  pub number : ℕ
+  pub name : List ℕ
+  pub asked : Bool
+  pub batches : ℕ
+  pub count : ℕ
+
+-- what is kept for a user: named graphs by ascending name, jobs by ascending number, the answers of imports by ascending
+-- id, the number of the last job and the version of the last graph
+pub record UserLists : Type 0 where
+  pub graphs : List NamedGraph
+  pub jobs : List Job
+  pub imports : List (List ℕ × ChangeReply)
+  pub last_job : ℕ
+  pub last_version : ℕ
+
+-- nothing is kept yet
+abbrev pub no_lists : UserLists
+no_lists = record { graphs = []; jobs = []; imports = []; last_job = 0; last_version = 0 }
+
+-- the part of a user: the graph, and the user's lists
+pub record Part : Type 0 where
+  pub graph : PropertyGraph
+  pub lists : UserLists
+
+-- one graph, and for each user their lists
+pub record State : Type 0 where
+  pub graph : PropertyGraph
+  pub lists : List ℕ → UserLists
+
+-- the part of a user
+abbrev pub part_of : State → List ℕ → Part
+part_of state user = record { graph = state.graph; lists = state.lists user }
+
+-- lists of users, of which one user's are others
+abbrev pub lists_with : (List ℕ → UserLists) → List ℕ → UserLists → List ℕ → UserLists
+lists_with all user lists other = if bytes_eq other user then lists else all other
+
+-- a state with another part for a user
+abbrev pub with_part : State → List ℕ → Part → State
+with_part state user part = record { graph = part.graph; lists = lists_with state.lists user part.lists }
+
+-- two states with the same graph and the same lists for each user
+pub record SameState (a b : State) : Type 0 where
+  pub graph : a.graph ≡ b.graph
+  pub lists : (user : List ℕ) → a.lists user ≡ b.lists user

@@ -1,0 +1,201 @@
+-- The table of steps: what an event answers, and what it leaves.
+--   Mark                      what befell an event: nothing, want of memory, or a fault of the keeper
+--   Outcome                   a reply, and the part of the user afterwards
+--   refusal_of event part     why an event is refused but for want of memory and a fault: the first cause in order
+--   commits event part        whether an event that isn't refused hands a change to the keeper
+--   may_want_memory event p   whether want of memory may be answered
+--   accepted event part       what an event does that isn't refused
+--   refused_part event part   what a refused event leaves
+--   step mark event part      one step of the machine
+--   mark_of reply             the mark that a reply shows
+--   MayStand mark event part  which marks may stand on an event
+--   IsWellFormed event        what must hold of an event alone
+--   IsReady event part        what must hold of an event in a state
+use Rattle.std.specs.Prelude.{◌≡◌, ℕ, ℤ, nat_lt, Bool, true, false, not, if◌then◌else◌, IsTrue, List, [], ◌∷◌, length, Option, Some, None}
+use Rattle.std.specs.Str.{bytes_eq}
+use Rattle.std.specs.Ordering.{nat_cmp}
+use Rattle.std.specs.Cmp.Lexicographic.{slice_cmp}
+use Rattle.std.specs.declared.cmp.Ordering.{Ordering}
+use Rattle.std.specs.declared.cmp.Ordering.TheVariants.{Less, Equal, Greater}
+use Rattle.std.specs.Option.{option_map, is_some}
+use Rattle.std.specs.List.{list_any, filter_map}
+use Rattle.graph_model.specs.declared.graph.Node.{Node}
+use Rattle.graph_model.specs.declared.graph.Prop.{Prop}
+use Rattle.graph_model.specs.declared.graph.PropertyGraph.{PropertyGraph}
+use Rattle.graph_model.specs.declared.graph.Choice.{Choice}
+use Rattle.graph_model.specs.declared.graph.Choice.TheVariants.{All, Of}
+use Rattle.graph_model.specs.declared.change.Change as model
+use Rattle.graph_model.specs.declared.change.ChangeReply.{ChangeReply}
+use Rattle.graph_model.specs.declared.refusal.Refusal.{Refusal}
+use Rattle.graph_model.specs.declared.refusal.Refusal.TheVariants.{CounterSpent, StoreFault, Mem}
+use Rattle.graph_model.specs.declared.refusal.Counter.TheVariants.{Imports}
+use Rattle.graph_model.specs.Change.{after_change, refused_change, change_answer, IsWellFormedChange}
+use Rattle.graph_model.specs.Lists.{first_there}
+use Rattle.graph_model.specs.Projection.{is_among, under}
+use Rattle.desk_model.specs.declared.asked.Event.{Event}
+use Rattle.desk_model.specs.declared.asked.Event.TheVariants.{Change, StoreRows}
+use Rattle.desk_model.specs.State.{UserLists, Part}
+use Rattle.desk_model.specs.Replies.{PlainReply, Changed, Rows, Refused}
+
+-- what befell an event
+pub data Mark : Type 0 where
+  Plain : Mark
+  OutOfMemory : Mark
+  Fault : Mark
+
+-- what an event answers, and the part of its user afterwards
+pub record Outcome : Type 0 where
+  pub reply : PlainReply
+  pub part : Part
+
+-- ---- changes
+
+-- the most import answers that are kept for a user
+abbrev pub most_imports : ℕ
+most_imports = 65536
+
+-- the answer that is kept under an import id, where one is given
+abbrev pub kept_answer : Option (List ℕ) → UserLists → Option ChangeReply
+kept_answer None lists = None
+kept_answer (Some id) lists = under id lists.imports
+
+-- why no answer can be kept under an import id
+abbrev pub imports_spent : Option (List ℕ) → UserLists → Option Refusal
+imports_spent None lists = None
+imports_spent (Some id) lists = if nat_lt (length lists.imports) most_imports then None else Some (CounterSpent Imports most_imports)
+
+-- an answer put at its id, which compares like this with the first id: before it, in its place, or behind it
+abbrev pub place_answer : Ordering → List ℕ × ChangeReply → List ℕ × ChangeReply → List (List ℕ × ChangeReply) → List (List ℕ × ChangeReply) → List (List ℕ × ChangeReply)
+place_answer Less new first rest placed = new ∷ first ∷ rest
+place_answer Equal new first rest placed = (first.0, new.1) ∷ rest
+place_answer Greater new first rest placed = first ∷ placed
+
+-- answers by ascending import id, with one more
+abbrev pub put_answer : List ℕ → ChangeReply → List (List ℕ × ChangeReply) → List (List ℕ × ChangeReply)
+put_answer id answer [] = (id, answer) ∷ []
+put_answer id answer (first ∷ rest) = place_answer (slice_cmp nat_cmp id first.0) (id, answer) first rest (put_answer id answer rest)
+
+-- the lists with an answer kept under an import id, where one is given
+abbrev pub with_answer : Option (List ℕ) → ChangeReply → UserLists → UserLists
+with_answer None answer lists = lists
+with_answer (Some id) answer lists = record lists { imports = put_answer id answer lists.imports }
+
+-- a change that isn't kept yet, made
+abbrev pub changed : Option (List ℕ) → model.Change → Part → Outcome
+changed import change part = record {
+  reply = Changed (change_answer part.graph change);
+  part = record { graph = after_change part.graph change; lists = with_answer import (change_answer part.graph change) part.lists };
+}
+
+-- a change with its kept answer, or made
+abbrev pub unless_kept : Option ChangeReply → Option (List ℕ) → model.Change → Part → Outcome
+unless_kept None import change part = changed import change part
+unless_kept (Some answer) import change part = record { reply = Changed answer; part = part }
+
+-- why a change is refused that isn't kept
+abbrev pub refusal_unless_kept : Option ChangeReply → Option (List ℕ) → model.Change → Part → Option Refusal
+refusal_unless_kept None import change part = first_there (imports_spent import part.lists) (refused_change part.graph change)
+refusal_unless_kept (Some answer) import change part = None
+
+-- ---- rows of the store
+
+-- the value that is stored under a key
+abbrev pub stored_value : List ℕ → List Prop → Option ℤ
+stored_value key [] = None
+stored_value key (prop ∷ props) = if bytes_eq prop.key key then Some prop.value else stored_value key props
+
+-- whether a node has a chosen label; a choice of all chooses each node, also one without a label
+abbrev pub chooses : Choice → Node → Bool
+chooses All node = true
+chooses (Of names) node = list_any (is_among names) node.labels
+
+-- the row of a node: its id and its value, where it stores one
+abbrev pub row_of : List ℕ → Node → Option (ℕ × ℤ)
+row_of key node = option_map (λ value. (node.id, value)) (stored_value key node.props)
+
+-- the row of a chosen node
+abbrev pub chosen_row : List ℕ → Choice → Node → Option (ℕ × ℤ)
+chosen_row key labels node = if chooses labels node then row_of key node else None
+
+-- the rows of the chosen nodes that store a key
+abbrev pub stored_rows : List ℕ → Choice → PropertyGraph → List (ℕ × ℤ)
+stored_rows key labels g = filter_map (chosen_row key labels) g.nodes
+
+-- ---- the table, event by event
+
+-- why an event is refused but for want of memory and a fault of the keeper: the first cause in order
+abbrev pub refusal_of : Event → Part → Option Refusal
+refusal_of (Change import change) part = refusal_unless_kept (kept_answer import part.lists) import change part
+refusal_of (StoreRows key labels) part = None
+
+-- what an event does that isn't refused
+abbrev pub accepted : Event → Part → Outcome
+accepted (Change import change) part = unless_kept (kept_answer import part.lists) import change part
+accepted (StoreRows key labels) part = record { reply = Rows (stored_rows key labels part.graph); part = part }
+
+-- whether an event that isn't refused hands a change to the keeper
+abbrev pub commits : Event → Part → Bool
+commits (Change import change) part = not (is_some (kept_answer import part.lists))
+commits (StoreRows key labels) part = false
+
+-- whether want of memory may be answered
+abbrev pub may_want_memory : Event → Part → Bool
+may_want_memory (Change import change) part = true
+may_want_memory (StoreRows key labels) part = true
+
+-- the batches that the event's job has done
+abbrev pub batches_of : Event → Part → ℕ
+batches_of (Change import change) part = 0
+batches_of (StoreRows key labels) part = 0
+
+-- what a refused event leaves
+abbrev pub refused_part : Event → Part → Part
+refused_part (Change import change) part = part
+refused_part (StoreRows key labels) part = part
+
+-- what must hold of an event alone
+abbrev pub IsWellFormed : Event → Type 0
+IsWellFormed (Change import change) = IsWellFormedChange change
+IsWellFormed (StoreRows key labels) = Unit {0}
+
+-- what must hold of an event in a state
+abbrev pub IsReady : Event → Part → Type 0
+IsReady (Change import change) part = IsWellFormed (Change import change)
+IsReady (StoreRows key labels) part = IsWellFormed (StoreRows key labels)
+
+-- ---- one step
+
+-- an event that no mark stands on, refused or done
+abbrev pub unless_refused : Option Refusal → Event → Part → Outcome
+unless_refused None event part = accepted event part
+unless_refused (Some why) event part = record { reply = Refused why; part = refused_part event part }
+
+-- one step of the machine: want of memory leaves all as it was
+abbrev pub step : Mark → Event → Part → Outcome
+step Plain event part = unless_refused (refusal_of event part) event part
+step OutOfMemory event part = record { reply = Refused Mem; part = part }
+step Fault event part = record { reply = Refused (StoreFault (batches_of event part)); part = refused_part event part }
+
+-- which marks may stand on an event: want of memory where it may be answered, and a fault where a change is handed over
+abbrev pub MayStand : Mark → Event → Part → Type 0
+MayStand Plain event part = Unit {0}
+MayStand OutOfMemory event part = IsTrue (may_want_memory event part)
+MayStand Fault event part = IsTrue (commits event part) × (refusal_of event part ≡ None)
+
+-- the mark that a refusal shows
+abbrev pub mark_of_refusal : Refusal → Mark
+mark_of_refusal Mem = OutOfMemory
+mark_of_refusal (StoreFault batches) = Fault
+mark_of_refusal why = Plain
+
+-- the mark that a reply shows
+abbrev pub mark_of : PlainReply → Mark
+mark_of (Changed answer) = Plain
+mark_of (Rows rows) = Plain
+mark_of (Refused why) = mark_of_refusal why
+
+-- whether a mark is a fault
+abbrev pub is_fault : Mark → Bool
+is_fault Plain = false
+is_fault OutOfMemory = false
+is_fault Fault = true

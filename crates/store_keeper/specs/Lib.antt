@@ -1,0 +1,4 @@
+-- What keepers tell, and what a keeper in memory does.
+pub mod Keeping
+pub mod MemKeeper
+pub mod Loading

@@ -1,0 +1,40 @@
+-- A keeper in memory: which commit fails, and what a commit leaves.
+use Rattle.std.specs.Prelude.{ℕ, Bool, true, false, List, Option, Some, None, Result, Ok, Err}
+use Rattle.graph_model.specs.declared.graph.PropertyGraph.{PropertyGraph}
+use Rattle.graph_model.specs.declared.change.Change.{Change}
+use Rattle.graph_model.specs.Change.{after_change}
+use Rattle.gds_causes.specs.Faults.{count_after_fault, next_number, is_listed}
+use Rattle.store_keeper.specs.declared.keeper.KeepRefusal.{KeepRefusal}
+use Rattle.store_keeper.specs.declared.keeper.KeepRefusal.TheVariants.{Fault, Mem}
+
+-- the graph, the numbers of the commits that fail, how many commits were asked for, and how many of them failed
+pub record KeeperState : Type 0 where
+  pub graph : PropertyGraph
+  pub fails : List ℕ
+  pub commits : ℕ
+  pub faults : ℕ
+
+-- whether the next commit fails: its number is listed
+abbrev pub commit_fails : KeeperState → Bool
+commit_fails keeper = is_listed keeper.fails (next_number keeper.commits)
+
+-- the keeper after a commit was asked for
+abbrev pub asked_once_more : KeeperState → KeeperState
+asked_once_more keeper = record keeper { commits = next_number keeper.commits }
+
+-- the keeper after a commit of a change with this answer
+abbrev pub keeper_after : KeeperState → Change → Result (Unit {0}) KeepRefusal → KeeperState
+keeper_after keeper change (Ok done) = record (asked_once_more keeper) { graph = after_change keeper.graph change }
+keeper_after keeper change (Err Fault) = record (asked_once_more keeper) { faults = count_after_fault keeper.faults }
+keeper_after keeper change (Err Mem) = asked_once_more keeper
+
+-- whether an answer is a fault
+abbrev pub is_fault : Result (Unit {0}) KeepRefusal → Bool
+is_fault (Ok done) = false
+is_fault (Err Fault) = true
+is_fault (Err Mem) = false
+
+-- the graph of a store where there is one, and else the one that was given
+abbrev pub graph_now : Option PropertyGraph → PropertyGraph → PropertyGraph
+graph_now None given = given
+graph_now (Some stored) given = stored
