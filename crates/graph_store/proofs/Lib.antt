@@ -9,3 +9,4 @@ pub mod OrderLemmas
 pub mod ValidValues
 pub mod ValidLaws
 pub mod ChangeLemmas
+pub mod LinkLemmas

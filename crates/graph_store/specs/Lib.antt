@@ -5,5 +5,6 @@ pub mod Slots
 pub mod Created
 pub mod Edits
 pub mod Stored
+pub mod Links
 pub mod Told
 pub mod Prepared

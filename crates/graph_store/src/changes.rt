@@ -59,9 +59,11 @@ impl Store {
         let (nodes, added) = with_values(&self.nodes, alloc, EntityKind::Node, key, values)?;
         let values = self.values_with(added)?;
         let rels = self.rels.try_clone()?;
+        let links = self.links.try_clone()?;
         Ok(Store {
             nodes,
             rels,
+            links,
             values,
         })
     }
@@ -79,9 +81,11 @@ impl Store {
         let (rels, added) = with_values(&self.rels, alloc, EntityKind::Rel, key, values)?;
         let values = self.values_with(added)?;
         let nodes = self.nodes.try_clone()?;
+        let links = self.links.try_clone()?;
         Ok(Store {
             nodes,
             rels,
+            links,
             values,
         })
     }
@@ -93,9 +97,11 @@ impl Store {
     {
         let (nodes, node_values) = without(&self.nodes, alloc, EntityKind::Node, ids)?;
         let (rels, rel_values) = without_loose(&self.rels, alloc, &nodes)?;
+        let links = self.links.try_clone()?;
         Ok(Store {
             nodes,
             rels,
+            links,
             values: self.values - node_values - rel_values,
         })
     }
@@ -107,9 +113,11 @@ impl Store {
     {
         let (rels, rel_values) = without(&self.rels, alloc, EntityKind::Rel, ids)?;
         let nodes = self.nodes.try_clone()?;
+        let links = self.links.try_clone()?;
         Ok(Store {
             nodes,
             rels,
+            links,
             values: self.values - rel_values,
         })
     }
@@ -158,9 +166,11 @@ impl Store {
         let count = nodes.len() as u32;
         let nodes = with_nodes(&self.nodes, alloc, nodes)?;
         let rels = with_rels(&self.rels, alloc, first, count, rels)?;
+        let links = self.links.extended(alloc, nodes.len(), &rels)?;
         Ok(Store {
             nodes,
             rels,
+            links,
             values,
         })
     }

@@ -1,16 +1,14 @@
 // Slots of nodes or relationships by their ids: looking one up, and making them of elements.
-ghost use Rattle.std.specs.Prelude.{◌≡◌, ◌<◌, ◌≤◌, ◌-◌, ◌++◌, ◌^◌, length, map, filter, replicate, sum_by, None, IfOk, OnOk};
+ghost use Rattle.std.specs.Prelude.{◌≡◌, ◌<◌, ◌≤◌, ◌-◌, ◌++◌, ◌^◌, length, map, replicate, sum_by, None, IfOk, OnOk};
 ghost use Rattle.std.specs.List.{AllByRecursion};
 ghost use Rattle.std.specs.Option.{option_copied};
 ghost use Rattle.graph_model.specs.Lists.{Pairwise};
-ghost use Rattle.graph_store.specs.Stored.{rel_id};
-ghost use Rattle.graph_store.specs.Told.{begins_at};
 ghost use Rattle.graph_store.specs.Slots.{slot_at, living, IsNumbered};
 
 use crate::element::Element;
 use crate::slot::Slot;
 use crate::table::Table;
-use graph_model::{List, Mem, Rel};
+use graph_model::{List, Mem};
 use std::alloc::Global;
 
 /// What lives under an id.
@@ -76,26 +74,6 @@ pub(crate) fn live_ids<E: Element>(slots: &Table<Slot<E>>, alloc: Global) -> Res
     for row in 0..slots.len() {
         if let Some(element) = live_at(slots, row) {
             ids.push(element.id())?;
-        }
-    }
-    Ok(ids)
-}
-
-/// The ids of the relationships that begin at a node, ascending.
-#[tactic(auto, using(crate::proofs::SlotLemmas::living_drop_more))]
-pub(crate) fn ids_from(
-    rels: &Table<Slot<Rel>>,
-    alloc: Global,
-    source: u32,
-) -> Result<List<u32>, Mem>
-    ensures { IfOk result (λ ids. ids ≡ map rel_id (filter (begins_at source) (living rels.now))) }
-{
-    let mut ids = List::new(alloc);
-    for row in 0..rels.len() {
-        if let Some(rel) = live_at(rels, row)
-            && rel.source == source
-        {
-            ids.push(rel.id)?;
         }
     }
     Ok(ids)

@@ -5,8 +5,9 @@ ghost use Rattle.std.specs.Option.{option_copied};
 ghost use Rattle.graph_model.specs.Graph.{IsValidGraph, IsWithinLimits, is_node, is_rel};
 ghost use Rattle.graph_store.specs.Told.{node_ids, rel_ids_from};
 
+use crate::link::Links;
 use crate::slot::Slot;
-use crate::slots::{ids_from, live_at, live_ids, slots_of, value_count};
+use crate::slots::{live_at, live_ids, slots_of, value_count};
 use crate::table::Table;
 use graph_model::{List, Mem, Node, PropertyGraph, Rel, TryClone};
 use std::alloc::Global;
@@ -18,6 +19,7 @@ use std::snapshot::Snapshot as Before;
 pub struct Store {
     pub(crate) nodes: Table<Slot<Node>>,
     pub(crate) rels: Table<Slot<Rel>>,
+    pub(crate) links: Links,
     pub(crate) values: u64,
 }
 
@@ -26,11 +28,12 @@ impl Model for Store {
 
     ghost Value = { PropertyGraph };
 
-    ghost use Rattle.graph_store.specs.Stored.{graph_of, IsSound};
+    ghost use Rattle.graph_store.specs.Stored.{graph_of};
+    ghost use Rattle.graph_store.specs.Links.{IsStored};
 
     ghost view = { λ store. graph_of store.nodes store.rels };
 
-    ghost invariant = { λ store. IsSound store.nodes store.rels store.values };
+    ghost invariant = { λ store. IsStored store.nodes store.rels store.values store.links.rels store.links.nodes };
 }
 
 impl Store {
@@ -44,9 +47,13 @@ impl Store {
         ensures { IfOk result (λ store. store ≡ graph) }
     {
         let values = value_count(&graph.nodes) + value_count(&graph.rels);
+        let nodes = slots_of(alloc, graph.nodes, graph.next_node)?;
+        let rels = slots_of(alloc, graph.rels, graph.next_rel)?;
+        let links = Links::new(alloc)?.extended(alloc, nodes.len(), &rels)?;
         Ok(Store {
-            nodes: slots_of(alloc, graph.nodes, graph.next_node)?,
-            rels: slots_of(alloc, graph.rels, graph.next_rel)?,
+            nodes,
+            rels,
+            links,
             values,
         })
     }
@@ -72,7 +79,7 @@ impl Store {
     pub fn rels_from(&self, alloc: Global, id: u32) -> Result<List<u32>, Mem>
         ensures { IfOk result (λ ids. ids ≡ rel_ids_from self.now id) }
     {
-        ids_from(&self.rels, alloc, id)
+        self.links.ids_from(alloc, &self.rels, id)
     }
 
     /// The ids of the nodes, ascending.
@@ -126,6 +133,7 @@ impl TryClone for Store {
         Ok(Store {
             nodes: self.nodes.try_clone()?,
             rels: self.rels.try_clone()?,
+            links: self.links.try_clone()?,
             values: self.values,
         })
     }

@@ -4,4 +4,4 @@ use Rattle.graph_store.proofs.SlotLemmas.{find-living}
 use Rattle.graph_store.proofs.store.Store.node.Goals as goal
 
 pub returns : goal.returns
-returns c = rw (← c.self.view_is) (c.live_at.ensures ∙ sym (find-living node_id c.self.inside.nodes 0 c.args.id c.args.id c.self.invariant.node_slots (omega arith)))
+returns c = rw (← c.self.view_is) (c.live_at.ensures ∙ sym (find-living node_id c.self.inside.nodes 0 c.args.id c.args.id c.self.invariant.sound.node_slots (omega arith)))

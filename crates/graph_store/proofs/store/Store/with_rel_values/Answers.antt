@@ -1,3 +1,5 @@
+use Rattle.std.proofs.Common.{ap, length}
+use Rattle.graph_store.proofs.LinkLemmas.{linked-after, mapped_length, set_keeps_sources}
 use Rattle.std.proofs.Common.{◌≡◌, Some, ◌∙◌, refl}
 use Rattle.std.proofs.lemmas.Result.{err_from_is_err_and}
 use Rattle.graph_model.specs.declared.change.Change.TheVariants.{SetRels}
@@ -9,7 +11,7 @@ pub returns-in_err-rels-clause-refused : goal.returns-in_err-rels-clause-refused
 returns-in_err-rels-clause-refused c =
     let p = err_from_is_err_and c.from_residual.result c.from_residual.ensures.1 in
     rw (p.1, p.2) (refused_for_rel c.self.inside.nodes c.self.inside.rels c.args.self.now (SetRels c.args.key.now c.args.values.now) c.in_err-rels.field-0.0
-    c.self.invariant.rel_slots c.self.view_is refl c.in_err-rels.ensures.refused)
+    c.self.invariant.sound.rel_slots c.self.view_is refl c.in_err-rels.ensures.refused)
 
 pub returns-in_err-values-clause-refused : goal.returns-in_err-values-clause-refused
 returns-in_err-values-clause-refused c =
@@ -17,16 +19,20 @@ returns-in_err-values-clause-refused c =
     let set = c.in_ok-rels.ensures in
     rw (p.1, p.2) (unless_mem c.in_err-values.field-0.0 (refused_change c.args.self.now (SetRels c.args.key.now c.args.values.now) ≡ Some c.in_err-values.field-0.0)
     (rels_set_refused c.self.inside.nodes c.self.inside.rels c.self.inside.values c.args.self.now c.args.key.now c.args.values.now c.in_ok-rels.rels c.in_ok-rels.added
-    (record { sound = c.self.invariant; is = c.self.view_is; found = set.found; set = set.set; grown = set.added }) ∙ c.in_err-values.ensures.err))
+    (record { sound = c.self.invariant.sound; is = c.self.view_is; found = set.found; set = set.set; grown = set.added }) ∙ c.in_err-values.ensures.err))
 
 pub invariant_of-result : goal.invariant_of-result
 invariant_of-result c =
     let set = c.in_ok-rels.ensures in
-    (rels_set_made c.self.inside.nodes c.self.inside.rels c.self.inside.values c.args.self.now c.args.key.now c.args.values.now c.in_ok-rels.rels c.in_ok-rels.added c.in_ok-values.values c.in_ok-nodes.nodes
-    (record { sound = c.self.invariant; is = c.self.view_is; found = set.found; set = set.set; grown = set.added }) c.in_ok-values.ensures.ok c.in_ok-nodes.ensures).0
+    record {
+      sound = (rels_set_made c.self.inside.nodes c.self.inside.rels c.self.inside.values c.args.self.now c.args.key.now c.args.values.now c.in_ok-rels.rels c.in_ok-rels.added c.in_ok-values.values c.in_ok-nodes.nodes
+          (record { sound = c.self.invariant.sound; is = c.self.view_is; found = set.found; set = set.set; grown = set.added }) c.in_ok-values.ensures.ok c.in_ok-nodes.ensures).0;
+      linked = linked-after c.self.inside.nodes c.in_ok-nodes.nodes c.self.inside.rels c.in_ok-rels.rels c.self.inside.links c.in_ok-links.links c.self.invariant.linked c.in_ok-links.ensures
+          (ap length c.in_ok-nodes.ensures) (mapped_length c.self.inside.rels c.in_ok-rels.rels _ set.set) (set_keeps_sources c.self.inside.rels c.in_ok-rels.rels c.args.key.now c.args.values.now set.set);
+    }
 
 pub returns-clause-ok : goal.returns-clause-ok
 returns-clause-ok c =
     let set = c.in_ok-rels.ensures in
     (rels_set_made c.self.inside.nodes c.self.inside.rels c.self.inside.values c.args.self.now c.args.key.now c.args.values.now c.in_ok-rels.rels c.in_ok-rels.added c.in_ok-values.values c.in_ok-nodes.nodes
-    (record { sound = c.self.invariant; is = c.self.view_is; found = set.found; set = set.set; grown = set.added }) c.in_ok-values.ensures.ok c.in_ok-nodes.ensures).1
+    (record { sound = c.self.invariant.sound; is = c.self.view_is; found = set.found; set = set.set; grown = set.added }) c.in_ok-values.ensures.ok c.in_ok-nodes.ensures).1

@@ -1,3 +1,7 @@
+use Rattle.std.proofs.Common.{ap, length}
+use Rattle.graph_store.specs.Stored.{rel_id}
+use Rattle.graph_store.specs.Edits.{is_unlisted}
+use Rattle.graph_store.proofs.LinkLemmas.{linked-after, mapped_length, kept_keeps_sources}
 use Rattle.std.proofs.Common.{refl, arith}
 use Rattle.std.proofs.lemmas.Result.{err_from_is_err_and}
 use Rattle.graph_model.specs.declared.change.Change.TheVariants.{DeleteRels}
@@ -6,27 +10,31 @@ use Rattle.graph_store.proofs.store.Store.without_rels.Goals as goal
 
 pub without-requires-clause-small : goal.without-requires-clause-small
 without-requires-clause-small c =
-    let fit = values_fit c.self.inside.nodes c.self.inside.rels c.self.inside.values c.self.invariant in omega (arith, fit.0, fit.1)
+    let fit = values_fit c.self.inside.nodes c.self.inside.rels c.self.inside.values c.self.invariant.sound in omega (arith, fit.0, fit.1)
 
 pub returns-in_err-rels-clause-refused : goal.returns-in_err-rels-clause-refused
 returns-in_err-rels-clause-refused c =
     let p = err_from_is_err_and c.from_residual.result c.from_residual.ensures.1 in
     rw (p.1, p.2) (refused_for_rel c.self.inside.nodes c.self.inside.rels c.args.self.now (DeleteRels c.args.ids.now) c.in_err-rels.field-0.0
-    c.self.invariant.rel_slots c.self.view_is refl c.in_err-rels.ensures.refused)
+    c.self.invariant.sound.rel_slots c.self.view_is refl c.in_err-rels.ensures.refused)
 
 pub overflow_sub-result : goal.overflow_sub-result
 overflow_sub-result c =
-    let fit = values_fit c.self.inside.nodes c.self.inside.rels c.self.inside.values c.self.invariant in
+    let fit = values_fit c.self.inside.nodes c.self.inside.rels c.self.inside.values c.self.invariant.sound in
     let counted = c.in_ok-rels.ensures.counted in omega (arith, fit.0, counted)
 
 pub invariant_of-result : goal.invariant_of-result
 invariant_of-result c =
     let gone = c.in_ok-rels.ensures in
-    (rels_gone_made c.self.inside.nodes c.self.inside.rels c.self.inside.values c.args.self.now c.args.ids.now c.in_ok-rels.rels c.in_ok-rels.rel_values c.in_ok-nodes.nodes
-    (record { sound = c.self.invariant; is = c.self.view_is; found = gone.found; gone = gone.removed; counted = gone.counted }) c.in_ok-nodes.ensures).0
+    record {
+      sound = (rels_gone_made c.self.inside.nodes c.self.inside.rels c.self.inside.values c.args.self.now c.args.ids.now c.in_ok-rels.rels c.in_ok-rels.rel_values c.in_ok-nodes.nodes
+          (record { sound = c.self.invariant.sound; is = c.self.view_is; found = gone.found; gone = gone.removed; counted = gone.counted }) c.in_ok-nodes.ensures).0;
+      linked = linked-after c.self.inside.nodes c.in_ok-nodes.nodes c.self.inside.rels c.in_ok-rels.rels c.self.inside.links c.in_ok-links.links c.self.invariant.linked c.in_ok-links.ensures
+          (ap length c.in_ok-nodes.ensures) (mapped_length c.self.inside.rels c.in_ok-rels.rels _ gone.removed) (kept_keeps_sources c.self.inside.rels c.in_ok-rels.rels (is_unlisted rel_id c.args.ids.now) gone.removed);
+    }
 
 pub returns-clause-ok : goal.returns-clause-ok
 returns-clause-ok c =
     let gone = c.in_ok-rels.ensures in
     (rels_gone_made c.self.inside.nodes c.self.inside.rels c.self.inside.values c.args.self.now c.args.ids.now c.in_ok-rels.rels c.in_ok-rels.rel_values c.in_ok-nodes.nodes
-    (record { sound = c.self.invariant; is = c.self.view_is; found = gone.found; gone = gone.removed; counted = gone.counted }) c.in_ok-nodes.ensures).1
+    (record { sound = c.self.invariant.sound; is = c.self.view_is; found = gone.found; gone = gone.removed; counted = gone.counted }) c.in_ok-nodes.ensures).1
