@@ -11,5 +11,7 @@ pub mod Increasing
 pub mod WithColumn
 pub mod Chosen
 pub mod Gathered
+pub mod Refusing
 pub mod ViewArcs
+pub mod Taken
 pub mod Renumbering

@@ -12,8 +12,11 @@ pub mod laws;
 mod ordering;
 mod parts;
 mod projection;
+mod taking;
 mod turning;
+mod view;
 
 pub use csr::Csr;
 pub use parts::{Parts, TypeColumns};
 pub use projection::Projection;
+pub use view::View;
