@@ -14,4 +14,5 @@ pub mod Gathered
 pub mod Refusing
 pub mod ViewArcs
 pub mod Taken
+pub mod Viewed
 pub mod Renumbering

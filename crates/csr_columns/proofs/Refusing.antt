@@ -82,3 +82,19 @@ lacking-none types key e = cond-true (list_all (has_column key) types) None (Som
 pub first_directed-plain : (ids : List ℕ) (types : List TypeColumns) → first_directed (map (plain_type ids) types) ≡ first_directed_kind types
 first_directed-plain ids [] = refl
 first_directed-plain ids (type ∷ types) = ap (λ (o : Option (List ℕ)). cond (is_undirected type.orientation) o (Some type.kind)) (first_directed-plain ids types)
+
+-- where a view isn't refused, each chosen type has the weight key
+pub key-there : (parts : Parts) (labels types : Choice) (key : List ℕ) → view_refusal (plain parts) labels types (Some key) ≡ None → list_all (has_column key) (chosen types parts.types) ≡ true
+key-there parts labels types key none =
+    told (list_all (has_column key) (chosen types parts.types))
+    (last (unknown_choice (names_of parts.labels) labels) (unknown_choice (map kind_of parts.types) types) (lacking_key (chosen types parts.types) (Some key)) (sym (view_refusal-columns parts labels types (Some key)) ∙ none))
+  where
+    last : (l t k : Option (List ℕ)) → first_cause l t k ≡ None → k ≡ None
+    last None None None h = refl
+    last None None (Some k) h = absurd cc
+    last None (Some t) k h = absurd cc
+    last (Some l) t k h = absurd cc
+
+    told : (b : Bool) → cond b None (Some key) ≡ None → b ≡ true
+    told true h = refl
+    told false h = absurd cc

@@ -110,16 +110,16 @@ module _ (places : List (Option ℕ)) where
       go (Some column) has beside = beside
 
 -- both of two tests
-both-first : (a b : Bool) → (a && b) ≡ true → a ≡ true
+pub both-first : (a b : Bool) → (a && b) ≡ true → a ≡ true
 both-first true b h = refl
 both-first false b h = absurd cc
 
-both-second : (a b : Bool) → (a && b) ≡ true → b ≡ true
+pub both-second : (a b : Bool) → (a && b) ≡ true → b ≡ true
 both-second true b h = h
 both-second false b h = absurd cc
 
 -- something stands under a name that is among the names
-under-among : {A : Type 0} (key : List ℕ) (columns : List (List ℕ × A)) → is_among (names_of columns) key ≡ true → is_some (under key columns) ≡ true
+pub under-among : {A : Type 0} (key : List ℕ) (columns : List (List ℕ × A)) → is_among (names_of columns) key ≡ true → is_some (under key columns) ≡ true
 under-among key [] among = absurd cc
 under-among {A} key (entry ∷ columns) among =
     ⊎_elim

@@ -15,6 +15,7 @@ mod projection;
 mod taking;
 mod turning;
 mod view;
+mod viewing;
 
 pub use csr::Csr;
 pub use parts::{Parts, TypeColumns};
