@@ -11,5 +11,8 @@ pub mod Increasing
 pub mod WithColumn
 pub mod Chosen
 pub mod Gathered
+pub mod Refusing
 pub mod ViewArcs
+pub mod Taken
+pub mod Viewed
 pub mod Renumbering

@@ -5,7 +5,7 @@ use Rattle.std.specs.List.Sorted.{IsStrictlyIncreasing}
 use Rattle.std.proofs.lemmas.Bool.{ne_eqb, eq-eqb, eqb-true}
 use Rattle.graph_model.specs.Lists.{Pairwise}
 use Rattle.graph_model.specs.View.{ViewArc, joins}
-use Rattle.csr_columns.specs.Keeping.{kept_of, renumbered, new_place, both_ends, moved, beside_arc, moved_with}
+use Rattle.csr_columns.specs.Keeping.{HasPlacesBelow, kept_of, renumbered, new_place, both_ends, moved, beside_arc, moved_with}
 use Rattle.csr_columns.specs.ViewParts.{bare_arc, heavy_arc}
 use Rattle.csr_columns.specs.Order.{itself, arc_beside}
 use Rattle.csr_columns.proofs.Increasing.{Ascends, All-at}
@@ -106,3 +106,21 @@ module _ (old new : List ℕ) (arc : ℕ × ℕ) where
       let first : get_or new a 0 ≡ get_or old arc.0 0 = id_at new a (get_or old arc.0 0) s in
       let second : get_or new b 0 ≡ get_or old arc.1 0 = id_at new b (get_or old arc.1 0) t in
       (cc, λ i j i_in j_in. joined a b i j s t i_in j_in)
+
+-- a place for each node
+pub length-renumbered : (n : ℕ) (flags : List Bool) → length (renumbered n flags) ≡ length flags
+length-renumbered n [] = refl
+length-renumbered n (true ∷ flags) = omega (arith, length-renumbered (n + 1) flags)
+length-renumbered n (false ∷ flags) = omega (arith, length-renumbered n flags)
+
+-- places lie below the number of kept ones
+below-from : (n : ℕ) (flags : List Bool) (ids : List ℕ) → length flags ≡ length ids → (v place : ℕ) → new_place (renumbered n flags) v ≡ Some place → place < n + length (kept_of flags ids)
+below-from n [] ids long v place is = absurd cc
+below-from n (flag ∷ flags) [] long v place is = absurd (omega arith)
+below-from n (true ∷ flags) (id ∷ ids) long zero place is = let same : n ≡ place = cc in omega arith
+below-from n (true ∷ flags) (id ∷ ids) long (suc v) place is = omega (arith, below-from (n + 1) flags ids (omega arith) v place is)
+below-from n (false ∷ flags) (id ∷ ids) long zero place is = absurd cc
+below-from n (false ∷ flags) (id ∷ ids) long (suc v) place is = below-from n flags ids (omega arith) v place is
+
+pub HasPlacesBelow-kept : (flags : List Bool) (ids : List ℕ) → length flags ≡ length ids → HasPlacesBelow (length (kept_of flags ids)) (renumbered 0 flags)
+HasPlacesBelow-kept flags ids long = record { below = λ v place is. omega (arith, below-from 0 flags ids long v place is) }

@@ -9,9 +9,9 @@ use Rattle.std.proofs.lemmas.List.FromFn.{length-map-range_with_len}
 use Rattle.std.proofs.lemmas.Slice.Zip.{length-zip, get_or-zip, firsts-zip}
 use Rattle.std.proofs.lemmas.Bool.{cond-true, cond-false, false_from_ne_true}
 use Rattle.graph_model.specs.Projection.{under}
-use Rattle.csr_columns.specs.Rows.{ArcRows, IsBeside, row_at, column_at}
+use Rattle.csr_columns.specs.Rows.{ArcRows, HasTargetsBelow, IsBeside, row_at, column_at}
 use Rattle.csr_columns.specs.Offsets.{cut_row, cut_rows, shown, IsUnnamed, IsFirstNamed, CutsRows, AreRows}
-use Rattle.csr_columns.proofs.OffsetRows.{length-cut_rows, row_at-cut_rows, listed-cut_rows, offsets_of_row}
+use Rattle.csr_columns.proofs.OffsetRows.{length-cut_rows, row_at-cut_rows, listed-cut_rows, offsets_of_row, All-cut_row}
 
 -- the keys stand in the order of the columns
 pub keys-shown : (offsets targets : List ℕ) (keys : List (List ℕ)) (columns : List (List ℤ)) → length keys ≡ length columns → map (λ column. column.0) (shown offsets targets keys columns).columns ≡ keys
@@ -94,3 +94,13 @@ beside-shown offsets targets keys columns place are h =
 pub beside-found : (offsets targets : List ℕ) (keys : List (List ℕ)) (columns : List (List ℤ)) (key : List ℕ) (place : Option ℕ) → AreRows offsets targets keys columns → MatchOption place (IsUnnamed keys key (length keys)) (IsFirstNamed keys key) → IfSome place (λ p. IsBeside (shown offsets targets keys columns).rows (column_at (shown offsets targets keys columns).columns p))
 beside-found offsets targets keys columns key None are absent = tt
 beside-found offsets targets keys columns key (Some place) are first = beside-shown offsets targets keys columns place are (omega (arith, first.0, are.named))
+
+-- the targets of rows lie below the number of nodes
+pub targets_below : (offsets targets : List ℕ) → All (λ target. target + 1 < length offsets) targets → HasTargetsBelow (cut_rows offsets targets)
+targets_below offsets targets below = record {
+  below = λ v v_in.
+      let within : v + 1 < length offsets = omega (arith, length-cut_rows offsets targets) in
+      let row = All-cut_row {X = ℕ} (λ (target : ℕ). target + 1 < length offsets) offsets targets v below in
+      subst (All (λ (target : ℕ). target < length (cut_rows offsets targets))) (sym (row_at-cut_rows offsets targets v within))
+      (λ k d h. omega (arith, row k d h, length-cut_rows offsets targets));
+}

@@ -4,10 +4,10 @@
 --   moved places arc         an arc between places as one between the places that its ends get, where both get one
 --   taken_arcs places type   the arcs of a type whose ends both get places
 --   taken_of places key type the same with their values under a key
-use Rattle.std.specs.Prelude.{ℕ, ℤ, ◌+◌, Bool, true, false, List, [], ◌∷◌, map, slice_index_or, Option, None, Some}
+use Rattle.std.specs.Prelude.{◌≡◌, ℕ, ℤ, ◌+◌, ◌<◌, Bool, true, false, List, [], ◌∷◌, map, slice_index_or, Option, None, Some, IfSome}
 use Rattle.std.specs.List.{filter_map, zip}
 use Rattle.graph_model.specs.Projection.{under}
-use Rattle.csr_columns.specs.Rows.{arcs_of, listed}
+use Rattle.csr_columns.specs.Rows.{HasTargetsBelow, IsBeside, arcs_of, listed}
 use Rattle.csr_columns.specs.declared.parts.TypeColumns.{TypeColumns}
 
 -- the items whose flags are true
@@ -81,3 +81,15 @@ taken_of places key type = taken_entries places type.arcs.rows (rows_under (unde
 -- the values alone
 abbrev pub values_beside : {A : Type 0} → List (A × ℤ) → List ℤ
 values_beside entries = map (λ entry. entry.1) entries
+
+-- the targets of the arcs of a type lie below its number of nodes
+abbrev pub HasArcsBelow : TypeColumns → Type 0
+HasArcsBelow type = HasTargetsBelow type.arcs.rows
+
+-- the values under a key stand beside the arcs of a type, where it has the key
+abbrev pub HasValuesBeside : List ℕ → TypeColumns → Type 0
+HasValuesBeside key type = IfSome (under key type.arcs.columns) (IsBeside type.arcs.rows)
+
+-- places lie below a number of nodes
+pub record HasPlacesBelow (nodes : ℕ) (places : List (Option ℕ)) : Type 0 where
+  pub below : (v place : ℕ) → new_place places v ≡ Some place → place < nodes

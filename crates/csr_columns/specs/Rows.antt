@@ -12,9 +12,10 @@
 --   row_in column v                the row of a node in a column, where there is one
 --   arcs_of rows                   the arcs of rows
 --   listed rows                    the items of rows, one row after another
+--   HasTargetsBelow rows           the targets of all arcs lie below the number of nodes
 --   IsBeside rows column           a column has a value beside each target of rows
 --   turned_rows rows               every arc turned, and the values with it
-use Rattle.std.specs.Prelude.{◌≡◌, ℕ, ℤ, ◌<◌, ◌≢◌, Bool, Option, Some, None, List, [], ◌∷◌, length, map, filter, slice_index_or, AllPairs}
+use Rattle.std.specs.Prelude.{◌≡◌, ℕ, ℤ, ◌<◌, ◌≢◌, Bool, Option, Some, None, List, [], ◌∷◌, length, map, filter, slice_index_or, All, AllPairs}
 use Rattle.std.specs.declared.cmp.Ordering.{Ordering}
 use Rattle.std.specs.Ordering.{nat_cmp, ordering_then}
 use Rattle.std.specs.List.{range_with_len, flat_map, zip}
@@ -106,3 +107,7 @@ turned_rows arcs = arc_rows_of (length arcs.rows) (map turned (arcs_of arcs.rows
 pub record IsBeside (rows : List (List ℕ)) (column : List (List ℤ)) : Type 0 where
   pub many : length column ≡ length rows
   pub long : (v : ℕ) → v < length rows → length (row_at column v) ≡ length (row_at rows v)
+
+-- the targets of all arcs lie below the number of nodes
+pub record HasTargetsBelow (rows : List (List ℕ)) : Type 0 where
+  pub below : (v : ℕ) → v < length rows → All (λ target. target < length rows) (row_at rows v)

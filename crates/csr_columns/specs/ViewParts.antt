@@ -24,6 +24,11 @@ abbrev pub weights_at : List (List ℕ × List (List ℤ)) → Option ℕ → Op
 weights_at columns None = None
 weights_at columns (Some place) = Some (column_at columns place)
 
+-- a view, as its columns show it
+abbrev pub view_shown : List ℕ → ArcRows → Option ℕ → Option (List ℕ) → ViewColumns
+view_shown ids arcs weight directed =
+    record { ids = ids; arcs = arcs; weights = weights_at arcs.columns weight; directed = directed }
+
 -- an arc without a weight, and an arc with one
 abbrev pub bare_arc : List ℕ → ℕ × ℕ → ViewArc
 bare_arc ids arc = record { source = slice_index ids arc.0; target = slice_index ids arc.1; weight = None }

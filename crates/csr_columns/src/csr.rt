@@ -2,7 +2,7 @@
 ghost use Rattle.std.specs.Prelude.{◌≡◌, ◌^◌, ◌<◌, [], length, map, sum_by, All, MatchOption, IfOk, IfSome, None, Some, option_copied};
 ghost use Rattle.std.specs.List.{zip};
 ghost use Rattle.std.specs.List.Sorted.{IsSorted};
-ghost use Rattle.csr_columns.specs.Rows.{IsBeside, names_of, LiesBelow, AreDistinct, arc_cmp, arc_rows_of, row_at, column_at, row_in, arcs_of, listed_column, turned_rows};
+ghost use Rattle.csr_columns.specs.Rows.{HasTargetsBelow, IsBeside, names_of, LiesBelow, AreDistinct, arc_cmp, arc_rows_of, row_at, column_at, row_in, arcs_of, listed_column, turned_rows};
 ghost use Rattle.csr_columns.specs.Order.{ordered, ordered_column, itself};
 ghost use Rattle.graph_model.specs.Projection.{is_among, under};
 
@@ -100,6 +100,7 @@ impl Csr {
         requires named { length keys ≡ length columns.now }
         requires distinct { AreDistinct keys }
         ensures nodes { IfOk result (λ csr. length csr.rows ≡ nodes) }
+        ensures many { IfOk result (λ csr. sum_by length csr.rows ≡ length ends.now) }
         ensures arcs { IfOk result (λ csr. arcs_of csr.rows ≡ ordered itself nodes ends.now) }
         ensures columns { IfOk result (λ csr. map listed_column csr.columns ≡ map (ordered_column nodes ends.now) (zip keys columns.now)) }
     {
@@ -113,10 +114,11 @@ impl Csr {
         })
     }
 
-    /// The number of nodes.
+    /// The number of nodes. The targets of all arcs lie below it.
     #[inline]
     pub fn node_count(&self) -> u32
-        ensures { result ≡ length self.now.rows }
+        ensures nodes { result ≡ length self.now.rows }
+        ensures below { HasTargetsBelow self.now.rows }
     {
         (self.offsets.len() - 1) as u32
     }

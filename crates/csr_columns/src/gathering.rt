@@ -1,10 +1,10 @@
 // The arcs that a view takes over, between the places that their ends get.
-ghost use Rattle.std.specs.Prelude.{◌≡◌, ◌^◌, ◌<◌, ◌++◌, length, All, OnOk};
+ghost use Rattle.std.specs.Prelude.{◌≡◌, ◌<◌, ◌++◌, length, All, OnOk, IfSome};
 ghost use Rattle.std.specs.List.{filter_map, flat_map, zip};
-ghost use Rattle.csr_columns.specs.Rows.{IsBeside, arcs_of, column_at};
+ghost use Rattle.csr_columns.specs.Rows.{HasTargetsBelow, IsBeside, arcs_of, column_at};
 ghost use Rattle.csr_columns.specs.Parts.{HasNodes};
 ghost use Rattle.csr_columns.specs.Choosing.{chosen};
-ghost use Rattle.csr_columns.specs.Keeping.{moved, moved_from, value_from, taken_arcs, taken_of, taken_entries, values_beside, rows_under};
+ghost use Rattle.csr_columns.specs.Keeping.{HasArcsBelow, HasValuesBeside, moved, moved_from, value_from, taken_arcs, taken_of, taken_entries, values_beside, rows_under};
 ghost use Rattle.graph_model.specs.Projection.{under};
 
 use crate::csr::Csr;
@@ -19,9 +19,9 @@ pub(crate) fn gather_arcs(
     choice: &Choice,
     places: &[Option<u32>],
 ) -> Result<(), Mem>
-    requires rows { All (HasNodes (length places.now)) types.now }
-    requires few { length places.now < 2 ^ 32 }
-    ensures { OnOk result (ends.new.items ≡ ends.old.items ++ flat_map (taken_arcs places.now) (chosen choice.now types.now)) }
+    requires { All (HasNodes (length places.now)) types.now }
+    ensures arcs { OnOk result (ends.new.items ≡ ends.old.items ++ flat_map (taken_arcs places.now) (chosen choice.now types.now)) }
+    ensures below { OnOk result (All HasArcsBelow (chosen choice.now types.now)) }
 {
     for kind in types {
         if choosing::chooses(choice, &kind.kind) {
@@ -33,13 +33,13 @@ pub(crate) fn gather_arcs(
 
 /// Puts the arcs of rows whose ends both get places behind those that are there.
 fn gather_rows(ends: &mut Vec<(u32, u32)>, arcs: &Csr, places: &[Option<u32>]) -> Result<(), Mem>
-    requires nodes { length arcs.now.rows ≡ length places.now }
-    requires few { length places.now < 2 ^ 32 }
-    ensures { OnOk result (ends.new.items ≡ ends.old.items ++ filter_map (moved places.now) (arcs_of arcs.now.rows)) }
+    requires { length arcs.now.rows ≡ length places.now }
+    ensures arcs { OnOk result (ends.new.items ≡ ends.old.items ++ filter_map (moved places.now) (arcs_of arcs.now.rows)) }
+    ensures below { OnOk result (HasTargetsBelow arcs.now.rows) }
 {
-    for (v, place) in places.iter().enumerate() {
-        if let Some(source) = place {
-            gather_row(ends, *source, arcs.row(v as u32), places)?;
+    for v in 0..arcs.node_count() {
+        if let Some(source) = places[v as usize] {
+            gather_row(ends, source, arcs.row(v), places)?;
         }
     }
     Ok(())
@@ -71,9 +71,9 @@ pub(crate) fn gather_weights(
     places: &[Option<u32>],
     key: &Name,
 ) -> Result<(), Mem>
-    requires rows { All (HasNodes (length places.now)) types.now }
-    requires few { length places.now < 2 ^ 32 }
-    ensures { OnOk result (weights.new.items ≡ weights.old.items ++ values_beside (flat_map (taken_of places.now key.now) (chosen choice.now types.now))) }
+    requires { All (HasNodes (length places.now)) types.now }
+    ensures weights { OnOk result (weights.new.items ≡ weights.old.items ++ values_beside (flat_map (taken_of places.now key.now) (chosen choice.now types.now))) }
+    ensures beside { OnOk result (All (HasValuesBeside key.now) (chosen choice.now types.now)) }
 {
     for kind in types {
         if choosing::chooses(choice, &kind.kind) {
@@ -90,9 +90,9 @@ fn gather_under(
     places: &[Option<u32>],
     key: &Name,
 ) -> Result<(), Mem>
-    requires nodes { length arcs.now.rows ≡ length places.now }
-    requires few { length places.now < 2 ^ 32 }
-    ensures { OnOk result (weights.new.items ≡ weights.old.items ++ values_beside (taken_entries places.now arcs.now.rows (rows_under (under key.now arcs.now.columns)))) }
+    requires { length arcs.now.rows ≡ length places.now }
+    ensures weights { OnOk result (weights.new.items ≡ weights.old.items ++ values_beside (taken_entries places.now arcs.now.rows (rows_under (under key.now arcs.now.columns)))) }
+    ensures beside { OnOk result (IfSome (under key.now arcs.now.columns) (IsBeside arcs.now.rows)) }
 {
     match arcs.place_of(key) {
         Some(column) => gather_columns(weights, arcs, column, places),
@@ -108,14 +108,12 @@ fn gather_columns(
     places: &[Option<u32>],
 ) -> Result<(), Mem>
     requires nodes { length arcs.now.rows ≡ length places.now }
-    requires few { length places.now < 2 ^ 32 }
     requires column { column < length arcs.now.columns }
     requires beside { IsBeside arcs.now.rows (column_at arcs.now.columns column) }
     ensures { OnOk result (weights.new.items ≡ weights.old.items ++ values_beside (taken_entries places.now arcs.now.rows (column_at arcs.now.columns column))) }
 {
-    for (v, place) in places.iter().enumerate() {
-        if place.is_some() {
-            let v = v as u32;
+    for v in 0..arcs.node_count() {
+        if places[v as usize].is_some() {
             gather_values(weights, arcs.row(v), arcs.values(column, v), places)?;
         }
     }

@@ -12,8 +12,12 @@ pub mod laws;
 mod ordering;
 mod parts;
 mod projection;
+mod taking;
 mod turning;
+mod view;
+mod viewing;
 
 pub use csr::Csr;
 pub use parts::{Parts, TypeColumns};
 pub use projection::Projection;
+pub use view::View;

@@ -7,10 +7,11 @@ ghost use Rattle.graph_model.specs.Refusals.{UnlessMem};
 ghost use Rattle.csr_columns.specs.Rows.{names_of};
 ghost use Rattle.csr_columns.specs.Parts.{FitTogether, HasNodes, arcs_in, flag_at, value_at};
 ghost use Rattle.csr_columns.specs.Plain.{plain, parts_with_column};
+ghost use Rattle.csr_columns.specs.Choosing.{kept_flags};
 
 use crate::parts::{Parts, TypeColumns};
-use crate::{adding, columns};
-use graph_model::{Column, List, Mem, Name, Refusal, Shared, TryClone};
+use crate::{adding, columns, keeping};
+use graph_model::{Choice, Column, List, Mem, Name, Refusal, Shared, TryClone};
 use std::alloc::Global;
 use std::marker::Model;
 
@@ -156,6 +157,16 @@ impl Projection {
             Ok(wider) => Ok(wider),
             Err(_mem) => Err(Refusal::Mem),
         }
+    }
+
+    // Whether each node has a chosen label.
+    pub(crate) fn kept_flags(&self, alloc: Global, labels: &Choice) -> Result<Vec<bool>, Mem>
+        ensures { IfOk result (λ kept. kept.items ≡ kept_flags labels.now self.now.labels (length self.now.ids)) }
+    {
+        let nodes = self.ids.get().len();
+        let (names, flags) = (self.labels.as_slice(), self.flags.as_slice());
+        let kept = keeping::kept_flags(alloc, nodes, names, flags, labels)?;
+        Ok(kept)
     }
 
     // The projection with one more column, whose key isn't there yet.

@@ -13,7 +13,7 @@ loop-v-preserved c =
     let v = c.loop-v.v in
     let front = filter_map (moved places) (flat_map (arcs_at rows) (range_with_len 0 v)) in
     let all = filter_map (moved places) (flat_map (arcs_at rows) (range_with_len 0 (v + 1))) in
-    elim c.match-place.branch [
+    elim c.match-places-v.branch [
       | in-Some+in_ok-gather_row w ↦
           rw (w.ends-is, w.in_ok-gather_row.ensures, w.row.ensures.row)
           (grown c.args.ends.now.items c.loop-v.ends.items front all (filter_map (moved_from places w.in-Some.source) (row_at rows v)) c.loop-v.invariant

@@ -6,4 +6,4 @@ use Rattle.csr_columns.proofs.gathering.gather_under.Goals as goal
 pub returns-in-None : goal.returns-in-None
 returns-in-None c =
     rw c.in-None.ensures.place
-    (sym (ap (λ (xs : List ℤ). c.args.weights.now.items ++ xs) (nothing_beside c.args.places.now c.args.arcs.now.rows) ∙ nothing c.args.weights.now.items))
+    (record { weights = sym (ap (λ (xs : List ℤ). c.args.weights.now.items ++ xs) (nothing_beside c.args.places.now c.args.arcs.now.rows) ∙ nothing c.args.weights.now.items); beside = tt })

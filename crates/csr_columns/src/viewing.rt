@@ -1,0 +1,147 @@
+// The view of a projection: choices resolved, nodes kept, and arcs taken over.
+ghost use Rattle.std.specs.Prelude.{◌≡◌, ◌≤◌, true, length, Some, None, Ok, Err, IfOk, IfErr, OnOk, option_copied};
+ghost use Rattle.std.specs.List.{list_all};
+ghost use Rattle.std.specs.List.Sorted.{IsStrictlyIncreasing};
+ghost use Rattle.graph_model.specs.View.{view_refusal, view_of, plain_view};
+ghost use Rattle.graph_model.specs.Refusals.{UnlessMem};
+ghost use Rattle.csr_columns.specs.Plain.{plain};
+ghost use Rattle.csr_columns.specs.ViewParts.{plain_view_of};
+ghost use Rattle.csr_columns.specs.Choosing.{chosen, has_column, kept_flags, first_directed_kind};
+ghost use Rattle.csr_columns.specs.Keeping.{HasPlacesBelow, kept_of, renumbered};
+ghost use Rattle.graph_model.specs.Graph.{most_nodes};
+
+use crate::parts::TypeColumns;
+use crate::projection::Projection;
+use crate::view::View;
+use crate::{choosing, keeping, taking};
+use graph_model::{Choice, List, Mem, Name, Refusal, Shared, TryClone};
+use std::alloc::Global;
+
+/// The kept nodes: their ids, and for each node the place that it gets.
+#[derive(Drop)]
+struct Kept {
+    ids: List<u32>,
+    places: Vec<Option<u32>>,
+}
+
+impl Projection {
+    /// The nodes with a chosen label, and the arcs of the chosen types between them, with their weights where a weight key
+    /// is given.
+    ///
+    /// # Errors
+    /// `NoSuchLabel` with the first label that isn't projected, else `NoSuchType` with the first type that isn't, else
+    /// `NoSuchProperty` where the weight key isn't a key of every chosen type, or `Mem`.
+    pub fn view(
+        &self,
+        alloc: Global,
+        labels: &Choice,
+        types: &Choice,
+        weight: Option<&Name>,
+    ) -> Result<View, Refusal>
+        ensures ok { IfOk result (λ view. view_of (plain self.now) labels.now types.now (option_copied weight.entry) ≡ Ok (plain_view_of view)) }
+        ensures refused { IfErr result (λ why. UnlessMem why (view_of (plain self.now) labels.now types.now (option_copied weight.entry) ≡ Err why)) }
+    {
+        if let Err(why) = self.check_choices(labels, types, weight) {
+            return Err(why);
+        }
+        let made = match weight {
+            None => self.bare_view(alloc, labels, types),
+            Some(key) => self.heavy_view(alloc, labels, types, key),
+        };
+        match made {
+            Ok(view) => Ok(view),
+            Err(_mem) => Err(Refusal::Mem),
+        }
+    }
+
+    // Refuses a view of names that aren't there.
+    fn check_choices(
+        &self,
+        labels: &Choice,
+        types: &Choice,
+        weight: Option<&Name>,
+    ) -> Result<(), Refusal>
+        ensures ok { OnOk result (view_refusal (plain self.now) labels.now types.now (option_copied weight.entry) ≡ None) }
+        ensures refused { IfErr result (λ why. UnlessMem why (view_refusal (plain self.now) labels.now types.now (option_copied weight.entry) ≡ Some why)) }
+    {
+        if let Some(label) = choosing::unknown(self.labels(), labels) {
+            let label = label.try_clone()?;
+            return Err(Refusal::NoSuchLabel { label });
+        }
+        if let Some(rel_type) = choosing::unknown_type(self.types(), types) {
+            let rel_type = rel_type.try_clone()?;
+            return Err(Refusal::NoSuchType { rel_type });
+        }
+        if let Some(key) = weight {
+            if !choosing::have_key(self.types(), types, key) {
+                let key = key.try_clone()?;
+                return Err(Refusal::NoSuchProperty { key });
+            }
+        }
+        Ok(())
+    }
+
+    // The view without weights.
+    fn bare_view(&self, alloc: Global, labels: &Choice, types: &Choice) -> Result<View, Mem>
+        ensures { IfOk result (λ view. plain_view_of view ≡ plain_view (plain self.now) labels.now types.now None) }
+    {
+        let Kept { ids, places } = self.keep(alloc, labels)?;
+        let arcs = taking::bare_rows(alloc, ids.len() as u32, self.types(), types, &places)?;
+        Ok(View {
+            ids: Shared::new(alloc, ids)?,
+            arcs: Shared::new(alloc, arcs)?,
+            weight: None,
+            directed: directed(self.types(), types)?,
+        })
+    }
+
+    // The view with the weights under a key that each chosen type has.
+    fn heavy_view(
+        &self,
+        alloc: Global,
+        labels: &Choice,
+        types: &Choice,
+        key: &Name,
+    ) -> Result<View, Mem>
+        requires { list_all (has_column key.now) (chosen types.now self.now.types) ≡ true }
+        ensures { IfOk result (λ view. plain_view_of view ≡ plain_view (plain self.now) labels.now types.now (Some key.now)) }
+    {
+        let Kept { ids, places } = self.keep(alloc, labels)?;
+        let arcs = taking::heavy_rows(alloc, ids.len() as u32, self.types(), types, &places, key)?;
+        Ok(View {
+            ids: Shared::new(alloc, ids)?,
+            arcs: Shared::new(alloc, arcs)?,
+            weight: Some(0),
+            directed: directed(self.types(), types)?,
+        })
+    }
+
+    // The nodes with a chosen label.
+    fn keep(&self, alloc: Global, labels: &Choice) -> Result<Kept, Mem>
+        ensures ids { IfOk result (λ kept. kept.ids ≡ kept_of (kept_flags labels.now self.now.labels (length self.now.ids)) self.now.ids) }
+        ensures places { IfOk result (λ kept. kept.places.items ≡ renumbered 0 (kept_flags labels.now self.now.labels (length self.now.ids))) }
+        ensures long { IfOk result (λ kept. length kept.places.items ≡ length self.now.ids) }
+        ensures below { IfOk result (λ kept. HasPlacesBelow (length kept.ids) kept.places.items) }
+        ensures few { IfOk result (λ kept. length kept.ids ≤ most_nodes) }
+        ensures ascend { IfOk result (λ kept. IsStrictlyIncreasing kept.ids) }
+        ensures sorted { OnOk result (IsStrictlyIncreasing self.now.ids) }
+    {
+        let kept = self.kept_flags(alloc, labels)?;
+        let ids = keeping::kept_ids(alloc, &kept, self.ids())?;
+        let places = keeping::new_places(alloc, &kept)?;
+        Ok(Kept { ids, places })
+    }
+}
+
+// The name of the first chosen type that isn't undirected.
+fn directed(types: &[TypeColumns], choice: &Choice) -> Result<Option<Name>, Mem>
+    ensures { IfOk result (λ name. name ≡ first_directed_kind (chosen choice.now types.now)) }
+{
+    match choosing::first_directed(types, choice) {
+        Some(name) => {
+            let copy = name.try_clone()?;
+            Ok(Some(copy))
+        }
+        None => Ok(None),
+    }
+}
