@@ -1,0 +1,2 @@
+-- What a user's lists lose.
+pub mod Imports
