@@ -62,8 +62,7 @@ IsLegal opening history = AreLegal opening [] history
 abbrev pub HasNoJobs : State → Type 0
 HasNoJobs state = (user : List ℕ) → (state.lists user).jobs ≡ []
 
--- an entry's reply and its user's new part are made of that user's old part, the event and the mark; the lists of all
--- others stay
+-- the new part of an entry's user is made of that user's old part, the event and the mark; the lists of all others stay
 pub record IsOwnStep (state : State) (entry : HistoryEntry) : Type 0 where
   pub alike : (other : State) → part_of other entry.user ≡ part_of state entry.user →
       part_of (state_after_entry other entry) entry.user ≡ part_of (state_after_entry state entry) entry.user

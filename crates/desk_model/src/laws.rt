@@ -18,8 +18,8 @@ pub fn worked_rows()
     ensures rows { (step Plain all_rows (step Plain set_two imported).part).reply ≡ Rows ((0, pos 5) ∷ (2, pos 6) ∷ []) }
 {}
 
-/// The reply to an entry and its user's new part are made of that user's old part, the event and the mark alone, and an
-/// entry leaves the lists of all other users.
+/// The new part of an entry's user is made of that user's old part, the event and the mark alone, and an entry leaves the
+/// lists of all other users.
 pub fn steps_are_own()
     ensures { StepsAreOwn }
 {}
