@@ -62,15 +62,21 @@ IsLegal opening history = AreLegal opening [] history
 abbrev pub HasNoJobs : State → Type 0
 HasNoJobs state = (user : List ℕ) → (state.lists user).jobs ≡ []
 
--- the new part of an entry's user is made of that user's old part, the event and the mark; the lists of all others stay
-pub record IsOwnStep (state : State) (entry : HistoryEntry) : Type 0 where
-  pub alike : (other : State) → part_of other entry.user ≡ part_of state entry.user →
-      part_of (state_after_entry other entry) entry.user ≡ part_of (state_after_entry state entry) entry.user
-  pub others : (user : List ℕ) → user ≢ entry.user → (state_after_entry state entry).lists user ≡ state.lists user
+-- two entries of one user, event and mark, where the user has the same part: they answer alike and leave the same part
+pub record AnswersAlike (state other : State) (entry twin : HistoryEntry) : Type 0 where
+  pub reply : entry.reply ≡ twin.reply
+  pub part : part_of (state_after_entry state entry) entry.user ≡ part_of (state_after_entry other twin) twin.user
 
--- so it is of every entry in every state
-abbrev pub StepsAreOwn : Type 0
-StepsAreOwn = (state : State) (entry : HistoryEntry) → IsOwnStep state entry
+-- the reply and the user's new part are made of that user's old part, the event and the mark alone
+abbrev pub RepliesAreOwn : Type 0
+RepliesAreOwn = (state other : State) (earlier before : List HistoryEntry) (entry twin : HistoryEntry) →
+    IsLegalEntry state earlier entry → IsLegalEntry other before twin →
+    entry.user ≡ twin.user → entry.event ≡ twin.event → mark_of entry.reply ≡ mark_of twin.reply →
+    part_of state entry.user ≡ part_of other twin.user → AnswersAlike state other entry twin
+
+-- an entry leaves the lists of all other users
+abbrev pub OthersStay : Type 0
+OthersStay = (state : State) (entry : HistoryEntry) (user : List ℕ) → user ≢ entry.user → (state_after_entry state entry).lists user ≡ state.lists user
 
 -- what a pass's own entries permit is ready
 abbrev pub PermittedIsReady : Type 0

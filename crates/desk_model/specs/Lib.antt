@@ -3,4 +3,5 @@ pub mod State
 pub mod Replies
 pub mod Step
 pub mod History
+pub mod Script
 pub mod WorkedRows

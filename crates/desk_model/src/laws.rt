@@ -5,7 +5,7 @@ ghost use Rattle.graph_model.specs.declared.change.ChangeReply.TheVariants.{Crea
 ghost use Rattle.graph_model.specs.declared.refusal.Refusal.TheVariants as refusal;
 ghost use Rattle.desk_model.specs.Replies.{Changed, Rows, Refused};
 ghost use Rattle.desk_model.specs.Step.{Plain, OutOfMemory, Fault, step};
-ghost use Rattle.desk_model.specs.History.{StepsAreOwn, PermittedIsReady};
+ghost use Rattle.desk_model.specs.History.{RepliesAreOwn, OthersStay, PermittedIsReady};
 ghost use Rattle.desk_model.specs.WorkedRows.{nothing_kept, import_small_store, imported, set_two, all_rows};
 
 /// The table of steps, evaluated: the small store is imported, and imported again; its import fails for a fault of the
@@ -18,10 +18,11 @@ pub fn worked_rows()
     ensures rows { (step Plain all_rows (step Plain set_two imported).part).reply ≡ Rows ((0, pos 5) ∷ (2, pos 6) ∷ []) }
 {}
 
-/// The new part of an entry's user is made of that user's old part, the event and the mark alone, and an entry leaves the
-/// lists of all other users.
+/// What an entry of a legal history answers, and the part that it leaves its user, are made of that user's old part, the
+/// event and the mark alone; and an entry leaves the lists of all other users.
 pub fn steps_are_own()
-    ensures { StepsAreOwn }
+    ensures replies { RepliesAreOwn }
+    ensures others { OthersStay }
 {}
 
 /// In every legal history from a state without jobs, what a pass's own entries permit is ready in the state after it.
