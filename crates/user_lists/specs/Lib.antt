@@ -1,2 +1,3 @@
--- What a user's lists lose.
+-- What a user's lists lose, and the lists of all users.
 pub mod Imports
+pub mod Users

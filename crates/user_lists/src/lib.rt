@@ -9,5 +9,7 @@ pub mod laws;
 mod lists;
 #[cfg(test)]
 mod tests;
+mod users;
 
 pub use lists::UserLists;
+pub use users::Users;

@@ -1,0 +1,12 @@
+-- The lists of all users.
+use Rattle.std.specs.Prelude.{◌≡◌, ◌≢◌, ℕ, List, unwrap_or}
+use Rattle.graph_model.specs.Projection.{under}
+use Rattle.desk_model.specs.State.{UserLists, no_lists}
+
+-- the lists of a user; a user who isn't there has empty ones
+abbrev pub lists_of : List (List ℕ × UserLists) → List ℕ → UserLists
+lists_of users user = unwrap_or (under user users) no_lists
+
+-- all other users have the lists that they had
+abbrev pub OthersStay : List ℕ → List (List ℕ × UserLists) → List (List ℕ × UserLists) → Type 0
+OthersStay user before after = (other : List ℕ) → other ≢ user → lists_of after other ≡ lists_of before other
