@@ -13,6 +13,7 @@ use Rattle.graph_model.specs.declared.change.NewNode.{NewNode}
 use Rattle.graph_model.specs.declared.change.NewRel.{NewRel}
 use Rattle.graph_model.specs.declared.change.Change.{Change}
 use Rattle.graph_model.specs.declared.change.Change.TheVariants.{Create, SetNodes, SetRels, DeleteNodes, DeleteRels}
+use Rattle.graph_model.specs.declared.change.ChangeReply.TheVariants.{Deleted}
 use Rattle.graph_model.specs.declared.refusal.Refusal.{Refusal}
 use Rattle.graph_model.specs.declared.refusal.Refusal.TheVariants.{NoSuchEntity, Mem}
 use Rattle.graph_model.specs.Refusals.{UnlessMem}
@@ -21,7 +22,7 @@ use Rattle.graph_model.specs.declared.refusal.Quantity.{Quantity}
 use Rattle.graph_model.specs.declared.refusal.Quantity.TheVariants as quantity
 use Rattle.graph_model.specs.Lists.{first_there, insert_in_order, in_order}
 use Rattle.graph_model.specs.Graph.{most_nodes, most_rels, most_values, value_count, node_value_count, rel_value_count, node_lives, is_node, is_rel, EndsLive}
-use Rattle.graph_model.specs.Change.{created_nodes, created_rels, named_ends, key_before, is_listed, pair_id, node_after, rel_after, keeps_node, keeps_ends, after_change, named_nodes, named_rels, node_missing, rel_missing, over_limit, refused_change, IsWellFormedChange}
+use Rattle.graph_model.specs.Change.{created_nodes, created_rels, named_ends, key_before, is_listed, pair_id, node_after, rel_after, keeps_node, keeps_ends, keeps_rel, after_change, change_answer, named_nodes, named_rels, node_missing, rel_missing, over_limit, refused_change, IsWellFormedChange}
 use Rattle.graph_store.specs.Slots.{slot_at, living, IsNumbered, kept, slot_count}
 use Rattle.graph_store.specs.Stored.{node_id, rel_id, graph_of, IsSound}
 use Rattle.graph_store.specs.Missing.{is_dead, IsMadeBy, new_node_values, new_rel_values, over_limits_with}
@@ -202,6 +203,47 @@ values_fit nodes rels values sound =
 allowed_values : (g : PropertyGraph) (c : Change) → find (node_missing g.nodes) (named_nodes c) ≡ None → find (rel_missing g.rels) (named_rels c) ≡ None → (after_change g c).next_node ≤ most_nodes → (after_change g c).next_rel ≤ most_rels → value_count (after_change g c) ≤ most_values → refused_change g c ≡ None
 allowed_values g c nodes rels few_nodes few_rels few_values =
     refused_values g c nodes rels few_nodes few_rels ∙ within_limit quantity.Values most_values (value_count (after_change g c)) few_values
+
+-- one of each
+sum_by-ones : {A : Type 0} (xs : List A) → sum_by (λ _. 1) xs ≡ length xs
+sum_by-ones [] = refl
+sum_by-ones (x ∷ xs) = omega (arith, sum_by-cons (λ _. 1) x xs, sum_by-ones xs)
+
+-- no more live than there are slots
+length-living : {A : Type 0} (slots : List (Option A)) → length (living slots) ≤ length slots
+length-living [] = omega arith
+length-living (None ∷ slots) = omega (arith, length-living slots)
+length-living (Some x ∷ slots) = omega (arith, length-living slots)
+
+-- however much each element weighs: what is left and what is gone weigh what there was
+abbrev pub WeighsSame : {A : Type 0} → List (Option A) → List (Option A) → List A → Type 0
+WeighsSame {A} slots left gone = (weight : A → ℕ) → sum_by (slot_count weight) left + sum_by weight gone ≡ sum_by (slot_count weight) slots
+
+-- so many are gone as live no more
+gone_length : {A : Type 0} (slots left : List (Option A)) (gone : List A) → WeighsSame slots left gone → length (living left) + length gone ≡ length (living slots)
+gone_length slots left gone same =
+    omega (arith, same (λ _. 1), sum_by-ones gone, sum_by-living (λ _. 1) left, sum_by-living (λ _. 1) slots, sum_by-ones (living left), sum_by-ones (living slots))
+
+pub gone_few : {A : Type 0} (slots left : List (Option A)) (gone : List A) → WeighsSame slots left gone → length gone ≤ length slots
+gone_few slots left gone same = omega (arith, gone_length slots left gone same, length-living slots)
+
+-- what is answered where nodes went, and the relationships at them
+pub nodes_gone_answer : (nodes nodes_left : List (Option Node)) (rels rels_left : List (Option Rel)) (g : PropertyGraph) (ids : List ℕ) (gone_nodes : List Node) (gone_rels : List Rel) → graph_of nodes rels ≡ g → graph_of nodes_left rels_left ≡ after_change g (DeleteNodes ids) → WeighsSame nodes nodes_left gone_nodes → WeighsSame rels rels_left gone_rels → Deleted (length gone_nodes) (length gone_rels) ≡ change_answer g (DeleteNodes ids)
+nodes_gone_answer nodes nodes_left rels rels_left g ids gone_nodes gone_rels is made nodes_same rels_same =
+    let node_count = gone_length nodes nodes_left gone_nodes nodes_same in
+    let rel_count = gone_length rels rels_left gone_rels rels_same in
+    let nodes_before = ap (λ (x : PropertyGraph). length x.nodes) is in let rels_before = ap (λ (x : PropertyGraph). length x.rels) is in
+    let nodes_after = ap (λ (x : PropertyGraph). length x.nodes) made in let rels_after = ap (λ (x : PropertyGraph). length x.rels) made in
+    let gone_node_count : length gone_nodes ≡ length g.nodes - length (filter (keeps_node ids) g.nodes) = omega (arith, node_count, nodes_before, nodes_after) in
+    let gone_rel_count : length gone_rels ≡ length g.rels - length (filter (keeps_ends ids) g.rels) = omega (arith, rel_count, rels_before, rels_after) in cc
+
+-- what is answered where relationships went
+pub rels_gone_answer : (nodes nodes_after : List (Option Node)) (rels rels_left : List (Option Rel)) (g : PropertyGraph) (ids : List ℕ) (gone : List Rel) → graph_of nodes rels ≡ g → graph_of nodes_after rels_left ≡ after_change g (DeleteRels ids) → WeighsSame rels rels_left gone → Deleted 0 (length gone) ≡ change_answer g (DeleteRels ids)
+rels_gone_answer nodes nodes_after rels rels_left g ids gone is made same =
+    let count = gone_length rels rels_left gone same in
+    let before = ap (λ (x : PropertyGraph). length x.rels) is in
+    let after = ap (λ (x : PropertyGraph). length x.rels) made in
+    let gone_count : length gone ≡ length g.rels - length (filter (keeps_rel ids) g.rels) = omega (arith, count, before, after) in cc
 
 -- the slots without listed relationships
 pub record IsRelsGone (nodes : List (Option Node)) (rels : List (Option Rel)) (values : ℕ) (g : PropertyGraph) (ids : List ℕ) (after : List (Option Rel)) (removed : ℕ) : Type 0 where

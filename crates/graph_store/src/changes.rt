@@ -2,15 +2,17 @@
 ghost use Rattle.std.specs.Prelude.{◌≡◌, ◌+◌, sum_by, None, Some, IfOk, IfErr};
 ghost use Rattle.graph_model.specs.Graph.{most_values, value_count};
 ghost use Rattle.graph_model.specs.Refusals.{UnlessMem};
-ghost use Rattle.graph_model.specs.Change.{after_change, over_limit, refused_change, IsWellFormedChange};
+ghost use Rattle.graph_model.specs.Change.{after_change, change_answer, over_limit, refused_change, IsWellFormedChange};
 ghost use Rattle.graph_store.specs.Missing.{IsMadeBy, new_node_values, new_rel_values, over_limits_with};
 
 use crate::checks::{missing_end, new_value_count};
 use crate::creating::{with_nodes, with_rels};
-use crate::deleting::{without, without_loose};
+use crate::deleting::{gone_values, without, without_loose};
 use crate::setting::with_values;
 use crate::store::{Prepared, Store};
-use graph_model::{Change, EntityKind, List, Name, NewNode, NewRel, Quantity, Refusal, TryClone};
+use graph_model::{
+    Change, ChangeReply, EntityKind, List, Name, NewNode, NewRel, Quantity, Refusal, TryClone,
+};
 use std::alloc::Global;
 use std::snapshot::Snapshot as Before;
 
@@ -52,20 +54,25 @@ impl Store {
         alloc: Global,
         key: &Name,
         values: &List<(u32, i64)>,
-    ) -> Result<Store, Refusal>
-        ensures ok { IfOk result (IsMadeBy self.now (Change.SetNodes key.now values.now)) }
+    ) -> Result<(Store, ChangeReply), Refusal>
+        ensures ok { IfOk result (λ made. IsMadeBy self.now (Change.SetNodes key.now values.now) made.0) }
+        ensures answer { IfOk result (λ made. made.1 ≡ change_answer self.now (Change.SetNodes key.now values.now)) }
         ensures refused { IfErr result (λ why. UnlessMem why (refused_change self.now (Change.SetNodes key.now values.now) ≡ Some why)) }
     {
+        let answer = ChangeReply::Set {
+            pairs: values.len() as u64,
+        };
         let (nodes, added) = with_values(&self.nodes, alloc, EntityKind::Node, key, values)?;
         let values = self.values_with(added)?;
         let rels = self.rels.try_clone()?;
         let links = self.links.try_clone()?;
-        Ok(Store {
+        let store = Store {
             nodes,
             rels,
             links,
             values,
-        })
+        };
+        Ok((store, answer))
     }
 
     /// The graph with a value of relationships set.
@@ -74,52 +81,79 @@ impl Store {
         alloc: Global,
         key: &Name,
         values: &List<(u32, i64)>,
-    ) -> Result<Store, Refusal>
-        ensures ok { IfOk result (IsMadeBy self.now (Change.SetRels key.now values.now)) }
+    ) -> Result<(Store, ChangeReply), Refusal>
+        ensures ok { IfOk result (λ made. IsMadeBy self.now (Change.SetRels key.now values.now) made.0) }
+        ensures answer { IfOk result (λ made. made.1 ≡ change_answer self.now (Change.SetRels key.now values.now)) }
         ensures refused { IfErr result (λ why. UnlessMem why (refused_change self.now (Change.SetRels key.now values.now) ≡ Some why)) }
     {
+        let answer = ChangeReply::Set {
+            pairs: values.len() as u64,
+        };
         let (rels, added) = with_values(&self.rels, alloc, EntityKind::Rel, key, values)?;
         let values = self.values_with(added)?;
         let nodes = self.nodes.try_clone()?;
         let links = self.links.try_clone()?;
-        Ok(Store {
+        let store = Store {
             nodes,
             rels,
             links,
             values,
-        })
+        };
+        Ok((store, answer))
     }
 
     /// The graph without nodes, and without the relationships at them.
-    pub(crate) fn without_nodes(&self, alloc: Global, ids: &List<u32>) -> Result<Store, Refusal>
-        ensures ok { IfOk result (IsMadeBy self.now (Change.DeleteNodes ids.now)) }
+    pub(crate) fn without_nodes(
+        &self,
+        alloc: Global,
+        ids: &List<u32>,
+    ) -> Result<(Store, ChangeReply), Refusal>
+        ensures ok { IfOk result (λ made. IsMadeBy self.now (Change.DeleteNodes ids.now) made.0) }
+        ensures answer { IfOk result (λ made. made.1 ≡ change_answer self.now (Change.DeleteNodes ids.now)) }
         ensures refused { IfErr result (λ why. UnlessMem why (refused_change self.now (Change.DeleteNodes ids.now) ≡ Some why)) }
     {
-        let (nodes, node_values) = without(&self.nodes, alloc, EntityKind::Node, ids)?;
-        let (rels, rel_values) = without_loose(&self.rels, alloc, &nodes)?;
+        let (nodes, gone_nodes) = without(&self.nodes, alloc, EntityKind::Node, ids)?;
+        let (rels, gone_rels) = without_loose(&self.rels, alloc, &nodes)?;
         let links = self.links.try_clone()?;
-        Ok(Store {
+        let values = self.values - gone_values(&gone_nodes) - gone_values(&gone_rels);
+        let store = Store {
             nodes,
             rels,
             links,
-            values: self.values - node_values - rel_values,
-        })
+            values,
+        };
+        let answer = ChangeReply::Deleted {
+            nodes: gone_nodes.len() as u32,
+            rels: gone_rels.len() as u32,
+        };
+        Ok((store, answer))
     }
 
     /// The graph without relationships.
-    pub(crate) fn without_rels(&self, alloc: Global, ids: &List<u32>) -> Result<Store, Refusal>
-        ensures ok { IfOk result (IsMadeBy self.now (Change.DeleteRels ids.now)) }
+    pub(crate) fn without_rels(
+        &self,
+        alloc: Global,
+        ids: &List<u32>,
+    ) -> Result<(Store, ChangeReply), Refusal>
+        ensures ok { IfOk result (λ made. IsMadeBy self.now (Change.DeleteRels ids.now) made.0) }
+        ensures answer { IfOk result (λ made. made.1 ≡ change_answer self.now (Change.DeleteRels ids.now)) }
         ensures refused { IfErr result (λ why. UnlessMem why (refused_change self.now (Change.DeleteRels ids.now) ≡ Some why)) }
     {
-        let (rels, rel_values) = without(&self.rels, alloc, EntityKind::Rel, ids)?;
+        let (rels, gone) = without(&self.rels, alloc, EntityKind::Rel, ids)?;
         let nodes = self.nodes.try_clone()?;
         let links = self.links.try_clone()?;
-        Ok(Store {
+        let values = self.values - gone_values(&gone);
+        let store = Store {
             nodes,
             rels,
             links,
-            values: self.values - rel_values,
-        })
+            values,
+        };
+        let answer = ChangeReply::Deleted {
+            nodes: 0,
+            rels: gone.len() as u32,
+        };
+        Ok((store, answer))
     }
 
     /// The number of values when new elements are there.
@@ -150,9 +184,10 @@ impl Store {
         alloc: Global,
         nodes: &List<NewNode>,
         rels: &List<NewRel>,
-    ) -> Result<Store, Refusal>
+    ) -> Result<(Store, ChangeReply), Refusal>
         requires { IsWellFormedChange (Change.Create nodes.now rels.now) }
-        ensures ok { IfOk result (IsMadeBy self.now (Change.Create nodes.now rels.now)) }
+        ensures ok { IfOk result (λ made. IsMadeBy self.now (Change.Create nodes.now rels.now) made.0) }
+        ensures answer { IfOk result (λ made. made.1 ≡ change_answer self.now (Change.Create nodes.now rels.now)) }
         ensures refused { IfErr result (λ why. UnlessMem why (refused_change self.now (Change.Create nodes.now rels.now) ≡ Some why)) }
     {
         if let Some(id) = missing_end(&self.nodes, rels.as_slice()) {
@@ -164,21 +199,30 @@ impl Store {
         let values = self.values_with_created(nodes, rels)?;
         let first = self.nodes.len() as u32;
         let count = nodes.len() as u32;
+        let answer = ChangeReply::Created {
+            first_node: first,
+            nodes: count,
+            first_rel: self.rels.len() as u32,
+            rels: rels.len() as u32,
+        };
         let nodes = with_nodes(&self.nodes, alloc, nodes)?;
         let rels = with_rels(&self.rels, alloc, first, count, rels)?;
-        let links = self.links.extended(alloc, nodes.len(), &rels)?;
-        Ok(Store {
+        let node_ids = nodes.len();
+        let links = self.links.extended(alloc, node_ids, &rels)?;
+        let store = Store {
             nodes,
             rels,
             links,
             values,
-        })
+        };
+        Ok((store, answer))
     }
 
-    /// The graph after a change.
-    fn after(&self, alloc: Global, change: &Change) -> Result<Store, Refusal>
+    /// The graph after a change, and what the change answers.
+    fn after(&self, alloc: Global, change: &Change) -> Result<(Store, ChangeReply), Refusal>
         requires { IsWellFormedChange change.now }
-        ensures ok { IfOk result (IsMadeBy self.now change.now) }
+        ensures ok { IfOk result (λ made. IsMadeBy self.now change.now made.0) }
+        ensures answer { IfOk result (λ made. made.1 ≡ change_answer self.now change.now) }
         ensures refused { IfErr result (λ why. UnlessMem why (refused_change self.now change.now ≡ Some why)) }
     {
         match change {
@@ -198,14 +242,15 @@ impl Store {
     /// nodes, relationships and values that would be over its limit; or `Mem`.
     pub fn prepare(&self, alloc: Global, change: &Change) -> Result<Prepared, Refusal>
         requires { IsWellFormedChange change.now }
-        ensures ok { IfOk result (λ made. (made ≡ record { before = self.now; after = after_change self.now change.now })
+        ensures ok { IfOk result (λ made. (made ≡ record { before = self.now; after = after_change self.now change.now; answer = change_answer self.now change.now })
             × (refused_change self.now change.now ≡ None)) }
         ensures refused { IfErr result (λ why. UnlessMem why (refused_change self.now change.now ≡ Some why)) }
     {
-        let after = self.after(alloc, change)?;
+        let (after, answer) = self.after(alloc, change)?;
         Ok(Prepared {
             before: Before::of(self),
             after,
+            answer,
         })
     }
 }

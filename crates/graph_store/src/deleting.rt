@@ -1,7 +1,8 @@
 // Elements that go.
-ghost use Rattle.std.specs.Prelude.{◌≡◌, ◌+◌, ◌<◌, ◌^◌, length, map, slice_set, sum_by, Some, None, IfOk, IfErr};
+ghost use Rattle.std.specs.Prelude.{◌≡◌, ℕ, ◌+◌, ◌<◌, ◌^◌, length, map, slice_set, sum_by, Some, None, IfOk, IfErr, OnOk};
 ghost use Rattle.std.specs.List.{find};
 ghost use Rattle.std.specs.Option.{option_map};
+ghost use Rattle.graph_model.specs.declared.graph.Rel.{Rel};
 ghost use Rattle.graph_model.specs.Refusals.{UnlessMem};
 ghost use Rattle.graph_store.specs.Missing.{is_dead};
 ghost use Rattle.graph_store.specs.Slots.{IsNumbered, slot_at, slot_count, kept};
@@ -10,85 +11,88 @@ ghost use Rattle.graph_store.specs.Edits.{ends_live, is_unlisted};
 use crate::checks::missing_id;
 use crate::element::Element;
 use crate::slot::Slot;
-use crate::slots::live_at;
+use crate::slots::{live_at, shared_at};
 use crate::table::Table;
-use graph_model::{EntityKind, List, Mem, Node, Refusal, Rel, TryClone};
+use graph_model::{EntityKind, List, Mem, Node, Refusal, Rel, Shared, TryClone};
 use std::alloc::Global;
 
-/// Nothing lives under an id any more. It answers how many values went.
-fn remove<E: Element>(slots: &mut Table<Slot<E>>, alloc: Global, id: usize) -> Result<u64, Mem>
-    ensures removed { IfOk result (λ _. slots.new ≡ slice_set slots.old id None) }
-    ensures counted { IfOk result (λ removed. sum_by (slot_count (λ element. length (E.props_of element))) slots.new + removed
-        ≡ sum_by (slot_count (λ element. length (E.props_of element))) slots.old) }
+/// Nothing lives under an id any more. What lived there joins those that are gone.
+fn remove<E: Element>(
+    slots: &mut Table<Slot<E>>,
+    gone: &mut List<Shared<E>>,
+    alloc: Global,
+    id: usize,
+) -> Result<(), Mem>
+    ensures removed { OnOk result (slots.new ≡ slice_set slots.old id None) }
+    ensures counted { OnOk result ((weight : E → ℕ) → sum_by (slot_count weight) slots.new + sum_by weight gone.new
+        ≡ sum_by (slot_count weight) slots.old + sum_by weight gone.old) }
 {
-    let Some(element) = live_at(slots, id) else {
-        return Ok(0);
+    let Some(element) = shared_at(slots, id)? else {
+        return Ok(());
     };
-    let removed = element.props().len() as u64;
-    slots.set(alloc, id, Slot::dead())?;
-    Ok(removed)
+    gone.push(element)?;
+    slots.set(alloc, id, Slot::dead())
 }
 
-/// Nothing lives under the listed ids any more. It answers how many values went.
+/// Nothing lives under the listed ids any more. What lived there joins those that are gone.
 fn remove_listed<E: Element>(
     slots: &mut Table<Slot<E>>,
+    gone: &mut List<Shared<E>>,
     alloc: Global,
     ids: &[u32],
-) -> Result<u64, Mem>
-    requires numbered { IsNumbered E.id_of 0 slots.old }
-    requires small { sum_by (slot_count (λ element. length (E.props_of element))) slots.old < 2 ^ 64 }
-    ensures removed { IfOk result (λ _. slots.new ≡ map (kept (is_unlisted E.id_of ids.now)) slots.old) }
-    ensures counted { IfOk result (λ removed. sum_by (slot_count (λ element. length (E.props_of element))) slots.new + removed
-        ≡ sum_by (slot_count (λ element. length (E.props_of element))) slots.old) }
+) -> Result<(), Mem>
+    requires { IsNumbered E.id_of 0 slots.old }
+    ensures removed { OnOk result (slots.new ≡ map (kept (is_unlisted E.id_of ids.now)) slots.old) }
+    ensures counted { OnOk result ((weight : E → ℕ) → sum_by (slot_count weight) slots.new + sum_by weight gone.new
+        ≡ sum_by (slot_count weight) slots.old + sum_by weight gone.old) }
 {
-    let mut removed = 0;
     for id in ids {
-        removed += remove(slots, alloc, *id as usize)?;
+        remove(slots, gone, alloc, *id as usize)?;
     }
-    Ok(removed)
+    Ok(())
 }
 
-/// A relationship goes if one of its ends doesn't live. It answers how many values went.
+/// A relationship goes if one of its ends doesn't live, and joins those that are gone.
 fn remove_if_loose(
     rels: &mut Table<Slot<Rel>>,
+    gone: &mut List<Shared<Rel>>,
     alloc: Global,
     nodes: &Table<Slot<Node>>,
     row: usize,
-) -> Result<u64, Mem>
-    ensures removed { IfOk result (λ _. rels.new ≡ slice_set rels.old row (kept (ends_live nodes.now) (slot_at rels.old row))) }
-    ensures counted { IfOk result (λ removed. sum_by (slot_count (λ rel. length rel.props)) rels.new + removed
-        ≡ sum_by (slot_count (λ rel. length rel.props)) rels.old) }
+) -> Result<(), Mem>
+    ensures removed { OnOk result (rels.new ≡ slice_set rels.old row (kept (ends_live nodes.now) (slot_at rels.old row))) }
+    ensures counted { OnOk result ((weight : Rel → ℕ) → sum_by (slot_count weight) rels.new + sum_by weight gone.new
+        ≡ sum_by (slot_count weight) rels.old + sum_by weight gone.old) }
 {
     let Some(rel) = live_at(rels, row) else {
-        return Ok(0);
+        return Ok(());
     };
     let source_lives = live_at(nodes, rel.source as usize).is_some();
     let target_lives = live_at(nodes, rel.target as usize).is_some();
     if source_lives && target_lives {
-        return Ok(0);
+        return Ok(());
     }
-    remove(rels, alloc, row)
+    remove(rels, gone, alloc, row)
 }
 
-/// The relationships of which an end doesn't live go. It answers how many values went.
+/// The relationships of which an end doesn't live go, and join those that are gone.
 fn remove_loose(
     rels: &mut Table<Slot<Rel>>,
+    gone: &mut List<Shared<Rel>>,
     alloc: Global,
     nodes: &Table<Slot<Node>>,
-) -> Result<u64, Mem>
-    requires { sum_by (slot_count (λ rel. length rel.props)) rels.old < 2 ^ 64 }
-    ensures removed { IfOk result (λ _. rels.new ≡ map (kept (ends_live nodes.now)) rels.old) }
-    ensures counted { IfOk result (λ removed. sum_by (slot_count (λ rel. length rel.props)) rels.new + removed
-        ≡ sum_by (slot_count (λ rel. length rel.props)) rels.old) }
+) -> Result<(), Mem>
+    ensures removed { OnOk result (rels.new ≡ map (kept (ends_live nodes.now)) rels.old) }
+    ensures counted { OnOk result ((weight : Rel → ℕ) → sum_by (slot_count weight) rels.new + sum_by weight gone.new
+        ≡ sum_by (slot_count weight) rels.old + sum_by weight gone.old) }
 {
-    let mut removed = 0;
     for row in 0..rels.len() {
-        removed += remove_if_loose(rels, alloc, nodes, row)?;
+        remove_if_loose(rels, gone, alloc, nodes, row)?;
     }
-    Ok(removed)
+    Ok(())
 }
 
-/// The slots without what lives under the listed ids, and how many values went.
+/// The slots without what lives under the listed ids, and what is gone.
 ///
 /// # Errors
 /// `NoSuchEntity` with the first id under which nothing lives, or `Mem`.
@@ -97,12 +101,11 @@ pub(crate) fn without<E: Element>(
     alloc: Global,
     kind: EntityKind,
     ids: &List<u32>,
-) -> Result<(Table<Slot<E>>, u64), Refusal>
-    requires numbered { IsNumbered E.id_of 0 slots.now }
-    requires small { sum_by (slot_count (λ element. length (E.props_of element))) slots.now < 2 ^ 64 }
+) -> Result<(Table<Slot<E>>, List<Shared<E>>), Refusal>
+    requires { IsNumbered E.id_of 0 slots.now }
     ensures removed { IfOk result (λ made. made.0 ≡ map (kept (is_unlisted E.id_of ids.now)) slots.now) }
-    ensures counted { IfOk result (λ made. sum_by (slot_count (λ element. length (E.props_of element))) made.0 + made.1
-        ≡ sum_by (slot_count (λ element. length (E.props_of element))) slots.now) }
+    ensures counted { IfOk result (λ made. (weight : E → ℕ) → sum_by (slot_count weight) made.0 + sum_by weight made.1
+        ≡ sum_by (slot_count weight) slots.now) }
     ensures found { IfOk result (λ _. find (is_dead slots.now) ids.now ≡ None) }
     ensures refused { IfErr result (λ why. UnlessMem why
         (option_map (Refusal.NoSuchEntity kind) (find (is_dead slots.now) ids.now) ≡ Some why)) }
@@ -111,22 +114,35 @@ pub(crate) fn without<E: Element>(
         return Err(Refusal::NoSuchEntity { kind, id });
     }
     let mut draft = slots.try_clone()?;
-    let removed = remove_listed(&mut draft, alloc, ids.as_slice())?;
-    Ok((draft, removed))
+    let mut gone = List::new(alloc);
+    remove_listed(&mut draft, &mut gone, alloc, ids.as_slice())?;
+    Ok((draft, gone))
 }
 
-/// The slots without the relationships of which an end doesn't live, and how many values went.
+/// The slots without the relationships of which an end doesn't live, and what is gone.
 pub(crate) fn without_loose(
     rels: &Table<Slot<Rel>>,
     alloc: Global,
     nodes: &Table<Slot<Node>>,
-) -> Result<(Table<Slot<Rel>>, u64), Mem>
-    requires { sum_by (slot_count (λ rel. length rel.props)) rels.now < 2 ^ 64 }
+) -> Result<(Table<Slot<Rel>>, List<Shared<Rel>>), Mem>
     ensures removed { IfOk result (λ made. made.0 ≡ map (kept (ends_live nodes.now)) rels.now) }
-    ensures counted { IfOk result (λ made. sum_by (slot_count (λ rel. length rel.props)) made.0 + made.1
-        ≡ sum_by (slot_count (λ rel. length rel.props)) rels.now) }
+    ensures counted { IfOk result (λ made. (weight : Rel → ℕ) → sum_by (slot_count weight) made.0 + sum_by weight made.1
+        ≡ sum_by (slot_count weight) rels.now) }
 {
     let mut draft = rels.try_clone()?;
-    let removed = remove_loose(&mut draft, alloc, nodes)?;
-    Ok((draft, removed))
+    let mut gone = List::new(alloc);
+    remove_loose(&mut draft, &mut gone, alloc, nodes)?;
+    Ok((draft, gone))
+}
+
+/// How many values the elements that are gone had.
+pub(crate) fn gone_values<E: Element>(gone: &List<Shared<E>>) -> u64
+    requires { sum_by (λ element. length (E.props_of element)) gone.now < 2 ^ 64 }
+    ensures { result ≡ sum_by (λ element. length (E.props_of element)) gone.now }
+{
+    let mut count = 0;
+    for element in gone.as_slice() {
+        count += element.get().props().len() as u64;
+    }
+    count
 }

@@ -40,6 +40,16 @@ impl<T> Slot<T> {
             None => None,
         }
     }
+
+    /// What lives there, shared once more.
+    pub(crate) fn shared(&self) -> Result<Option<Shared<T>>, Mem>
+        ensures { IfOk result (λ found. found ≡ self.now) }
+    {
+        match &self.item {
+            Some(item) => Ok(Some(item.try_clone()?)),
+            None => Ok(None),
+        }
+    }
 }
 
 impl<T: Drop> Slot<T> {

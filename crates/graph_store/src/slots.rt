@@ -8,7 +8,7 @@ ghost use Rattle.graph_store.specs.Slots.{slot_at, living, IsNumbered};
 use crate::element::Element;
 use crate::slot::Slot;
 use crate::table::Table;
-use graph_model::{List, Mem};
+use graph_model::{List, Mem, Shared};
 use std::alloc::Global;
 
 /// What lives under an id.
@@ -18,6 +18,16 @@ pub(crate) fn live_at<E>(slots: &Table<Slot<E>>, id: usize) -> Option<&E>
     match slots.get(id) {
         Some(slot) => slot.get(),
         None => None,
+    }
+}
+
+/// What lives under an id, shared once more.
+pub(crate) fn shared_at<E>(slots: &Table<Slot<E>>, id: usize) -> Result<Option<Shared<E>>, Mem>
+    ensures { IfOk result (λ found. found ≡ slot_at slots.now id) }
+{
+    match slots.get(id) {
+        Some(slot) => slot.shared(),
+        None => Ok(None),
     }
 }
 

@@ -9,7 +9,7 @@ use crate::link::Links;
 use crate::slot::Slot;
 use crate::slots::{live_at, live_ids, slots_of, value_count};
 use crate::table::Table;
-use graph_model::{List, Mem, Node, PropertyGraph, Rel, TryClone};
+use graph_model::{ChangeReply, List, Mem, Node, PropertyGraph, Rel, TryClone};
 use std::alloc::Global;
 use std::marker::Model;
 use std::snapshot::Snapshot as Before;
@@ -123,7 +123,11 @@ impl Store {
         requires { made.before ≡ self.old }
         ensures { self.new ≡ made.after }
     {
-        let Prepared { before: _, after } = made;
+        let Prepared {
+            before: _,
+            after,
+            answer: _,
+        } = made;
         *self = after;
     }
 }
@@ -139,11 +143,12 @@ impl TryClone for Store {
     }
 }
 
-/// A change that was prepared: the graph that it was prepared on, and the graph to come.
+/// A change that was prepared: the graph that it was prepared on, the graph to come, and what the change answers.
 #[derive(Drop)]
 pub struct Prepared {
     pub(crate) before: Before<Store>,
     pub(crate) after: Store,
+    pub(crate) answer: ChangeReply,
 }
 
 impl Model for Prepared {
@@ -151,7 +156,16 @@ impl Model for Prepared {
 
     ghost Value = { PreparedChange };
 
-    ghost view = { λ made. record { before = made.before.value; after = made.after } };
+    ghost view = { λ made. record { before = made.before.value; after = made.after; answer = made.answer } };
+}
+
+impl Prepared {
+    /// What the change answers once it is made.
+    pub fn answer(&self) -> ChangeReply
+        ensures { result ≡ self.now.answer }
+    {
+        self.answer
+    }
 }
 
 /// A graph as a store had it at one moment. Contracts see the graph, which is valid and within the limits.

@@ -1,4 +1,4 @@
-use Rattle.std.proofs.Common.{None, arith}
+use Rattle.std.proofs.Common.{None, ◌∙◌, arith}
 use Rattle.graph_store.specs.Slots.{kept}
 use Rattle.graph_store.specs.Edits.{ends_live}
 use Rattle.graph_store.proofs.SlotLemmas.{set-front, get_or-front}
@@ -9,6 +9,6 @@ loop-row-preserved c =
     let rels = c.args.rels.now in
     let f = kept (ends_live c.args.nodes.now) in
     let same = get_or-front f rels c.loop-row.row None (omega arith) in (
-      rw (c.in_ok-removed.ensures.removed, c.loop-row.invariant.0, same) (set-front f rels c.loop-row.row None (omega arith)),
-      omega (arith, c.loop-row.invariant.1, c.in_ok-removed.ensures.counted),
+      rw (c.in_ok-remove_if_loose.ensures.removed, c.loop-row.invariant.0, same) (set-front f rels c.loop-row.row None (omega arith)),
+      λ weight. c.in_ok-remove_if_loose.ensures.counted weight ∙ c.loop-row.invariant.1 weight,
     )

@@ -27,7 +27,7 @@ extended-requires-clause-sources c =
     let found : find (is_dead c.self.inside.nodes) (flat_map named_ends c.args.rels.now) ≡ None = rw c.as_slice.ensures.value at (sym c.missing_end.ensures ∙ c.in_default.is) in
     let made = created_made c.self.inside.nodes c.self.inside.rels c.self.inside.values c.args.self.now c.args.nodes.now c.args.rels.now c.in_ok-nodes.nodes c.in_ok-rels.rels c.in_ok-values.values
     c.self.invariant.sound c.self.view_is c.requires found c.in_ok-nodes.ensures (rw c.len-first.ensures at c.in_ok-rels.ensures) c.in_ok-values.ensures.ok in
-    λ id rel is. rw c.len.ensures (source_below c.in_ok-nodes.nodes c.in_ok-rels.rels id rel made.0.node_slots made.0.valid.ends is)
+    λ id rel is. rw c.len-node_ids.ensures (source_below c.in_ok-nodes.nodes c.in_ok-rels.rels id rel made.0.node_slots made.0.valid.ends is)
 
 pub extended-requires-clause-few : goal.extended-requires-clause-few
 extended-requires-clause-few c =
@@ -36,13 +36,13 @@ extended-requires-clause-few c =
     c.self.invariant.sound c.self.view_is c.requires found c.in_ok-nodes.ensures (rw c.len-first.ensures at c.in_ok-rels.ensures) c.in_ok-values.ensures.ok in
     let few = made.0.within.rels in omega (arith, few)
 
-pub invariant_of-result : goal.invariant_of-result
-invariant_of-result c =
+pub invariant_of-store : goal.invariant_of-store
+invariant_of-store c =
     let found : find (is_dead c.self.inside.nodes) (flat_map named_ends c.args.rels.now) ≡ None = rw c.as_slice.ensures.value at (sym c.missing_end.ensures ∙ c.in_default.is) in
     record {
       sound = (created_made c.self.inside.nodes c.self.inside.rels c.self.inside.values c.args.self.now c.args.nodes.now c.args.rels.now c.in_ok-nodes.nodes c.in_ok-rels.rels c.in_ok-values.values
           c.self.invariant.sound c.self.view_is c.requires found c.in_ok-nodes.ensures (rw c.len-first.ensures at c.in_ok-rels.ensures) c.in_ok-values.ensures.ok).0;
-      linked = rw c.len.ensures at c.in_ok-links.ensures;
+      linked = rw c.len-node_ids.ensures at c.in_ok-links.ensures;
     }
 
 pub returns-clause-ok : goal.returns-clause-ok

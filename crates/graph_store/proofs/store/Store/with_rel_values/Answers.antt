@@ -21,8 +21,8 @@ returns-in_err-values-clause-refused c =
     (rels_set_refused c.self.inside.nodes c.self.inside.rels c.self.inside.values c.args.self.now c.args.key.now c.args.values.now c.in_ok-rels.rels c.in_ok-rels.added
     (record { sound = c.self.invariant.sound; is = c.self.view_is; found = set.found; set = set.set; grown = set.added }) ∙ c.in_err-values.ensures.err))
 
-pub invariant_of-result : goal.invariant_of-result
-invariant_of-result c =
+pub invariant_of-store : goal.invariant_of-store
+invariant_of-store c =
     let set = c.in_ok-rels.ensures in
     record {
       sound = (rels_set_made c.self.inside.nodes c.self.inside.rels c.self.inside.values c.args.self.now c.args.key.now c.args.values.now c.in_ok-rels.rels c.in_ok-rels.added c.in_ok-values.values c.in_ok-nodes.nodes

@@ -5,12 +5,9 @@ use Rattle.graph_store.proofs.LinkLemmas.{linked-after, mapped_length, kept_keep
 use Rattle.std.proofs.Common.{refl, arith}
 use Rattle.std.proofs.lemmas.Result.{err_from_is_err_and}
 use Rattle.graph_model.specs.declared.change.Change.TheVariants.{DeleteRels}
-use Rattle.graph_store.proofs.ChangeLemmas.{values_fit, refused_for_rel, rels_gone_made}
+use Rattle.graph_model.specs.Graph.{rel_value_count}
+use Rattle.graph_store.proofs.ChangeLemmas.{values_fit, gone_few, refused_for_rel, rels_gone_made, rels_gone_answer}
 use Rattle.graph_store.proofs.store.Store.without_rels.Goals as goal
-
-pub without-requires-clause-small : goal.without-requires-clause-small
-without-requires-clause-small c =
-    let fit = values_fit c.self.inside.nodes c.self.inside.rels c.self.inside.values c.self.invariant.sound in omega (arith, fit.0, fit.1)
 
 pub returns-in_err-rels-clause-refused : goal.returns-in_err-rels-clause-refused
 returns-in_err-rels-clause-refused c =
@@ -18,17 +15,27 @@ returns-in_err-rels-clause-refused c =
     rw (p.1, p.2) (refused_for_rel c.self.inside.nodes c.self.inside.rels c.args.self.now (DeleteRels c.args.ids.now) c.in_err-rels.field-0.0
     c.self.invariant.sound.rel_slots c.self.view_is refl c.in_err-rels.ensures.refused)
 
-pub overflow_sub-result : goal.overflow_sub-result
-overflow_sub-result c =
+pub gone_values-requires : goal.gone_values-requires
+gone_values-requires c =
     let fit = values_fit c.self.inside.nodes c.self.inside.rels c.self.inside.values c.self.invariant.sound in
-    let counted = c.in_ok-rels.ensures.counted in omega (arith, fit.0, counted)
+    let rels = c.in_ok-rels.ensures.counted rel_value_count in omega (arith, fit.0, fit.1, rels)
 
-pub invariant_of-result : goal.invariant_of-result
-invariant_of-result c =
+pub overflow_sub-values : goal.overflow_sub-values
+overflow_sub-values c =
+    let fit = values_fit c.self.inside.nodes c.self.inside.rels c.self.inside.values c.self.invariant.sound in
+    let rels = c.in_ok-rels.ensures.counted rel_value_count in omega (arith, fit.0, rels, c.gone_values.ensures)
+
+pub overflow_cast-answer : goal.overflow_cast-answer
+overflow_cast-answer c =
+    let few = c.self.invariant.sound.within.rels in
+    let gone = gone_few c.self.inside.rels c.in_ok-rels.rels c.in_ok-rels.gone c.in_ok-rels.ensures.counted in omega (arith, few, gone, c.len.ensures)
+
+pub invariant_of-store : goal.invariant_of-store
+invariant_of-store c =
     let gone = c.in_ok-rels.ensures in
     record {
-      sound = (rels_gone_made c.self.inside.nodes c.self.inside.rels c.self.inside.values c.args.self.now c.args.ids.now c.in_ok-rels.rels c.in_ok-rels.rel_values c.in_ok-nodes.nodes
-          (record { sound = c.self.invariant.sound; is = c.self.view_is; found = gone.found; gone = gone.removed; counted = gone.counted }) c.in_ok-nodes.ensures).0;
+      sound = (rels_gone_made c.self.inside.nodes c.self.inside.rels c.self.inside.values c.args.self.now c.args.ids.now c.in_ok-rels.rels c.gone_values.result c.in_ok-nodes.nodes
+          (record { sound = c.self.invariant.sound; is = c.self.view_is; found = gone.found; gone = gone.removed; counted = rw c.gone_values.ensures (gone.counted rel_value_count) }) c.in_ok-nodes.ensures).0;
       linked = linked-after c.self.inside.nodes c.in_ok-nodes.nodes c.self.inside.rels c.in_ok-rels.rels c.self.inside.links c.in_ok-links.links c.self.invariant.linked c.in_ok-links.ensures
           (ap length c.in_ok-nodes.ensures) (mapped_length c.self.inside.rels c.in_ok-rels.rels _ gone.removed) (kept_keeps_sources c.self.inside.rels c.in_ok-rels.rels (is_unlisted rel_id c.args.ids.now) gone.removed);
     }
@@ -36,5 +43,12 @@ invariant_of-result c =
 pub returns-clause-ok : goal.returns-clause-ok
 returns-clause-ok c =
     let gone = c.in_ok-rels.ensures in
-    (rels_gone_made c.self.inside.nodes c.self.inside.rels c.self.inside.values c.args.self.now c.args.ids.now c.in_ok-rels.rels c.in_ok-rels.rel_values c.in_ok-nodes.nodes
-    (record { sound = c.self.invariant.sound; is = c.self.view_is; found = gone.found; gone = gone.removed; counted = gone.counted }) c.in_ok-nodes.ensures).1
+    (rels_gone_made c.self.inside.nodes c.self.inside.rels c.self.inside.values c.args.self.now c.args.ids.now c.in_ok-rels.rels c.gone_values.result c.in_ok-nodes.nodes
+    (record { sound = c.self.invariant.sound; is = c.self.view_is; found = gone.found; gone = gone.removed; counted = rw c.gone_values.ensures (gone.counted rel_value_count) }) c.in_ok-nodes.ensures).1
+
+pub returns-clause-answer : goal.returns-clause-answer
+returns-clause-answer c =
+    let gone = c.in_ok-rels.ensures in
+    let made = rels_gone_made c.self.inside.nodes c.self.inside.rels c.self.inside.values c.args.self.now c.args.ids.now c.in_ok-rels.rels c.gone_values.result c.in_ok-nodes.nodes
+    (record { sound = c.self.invariant.sound; is = c.self.view_is; found = gone.found; gone = gone.removed; counted = rw c.gone_values.ensures (gone.counted rel_value_count) }) c.in_ok-nodes.ensures in
+    rw c.len.ensures (rels_gone_answer c.self.inside.nodes c.in_ok-nodes.nodes c.self.inside.rels c.in_ok-rels.rels c.args.self.now c.args.ids.now c.in_ok-rels.gone c.self.view_is made.1.0 gone.counted)
