@@ -4,3 +4,4 @@ pub mod ListLemmas
 pub mod LivingLemmas
 pub mod OrderLemmas
 pub mod ValidLemmas
+pub mod IdLemmas

@@ -1,5 +1,6 @@
 -- Definitions on property graphs, which every crate above cites.
 pub mod Arcs
+pub mod ById
 pub mod Change
 pub mod ChangeLaws
 pub mod Graph

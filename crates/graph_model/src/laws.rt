@@ -1,6 +1,7 @@
 // Laws of the definitions, each the contract of a function that does nothing.
 ghost use Rattle.std.specs.Prelude.{◌≡◌, [], ◌∷◌, Some, None, codes, pos};
 ghost use Rattle.graph_model.specs.Change.{after_change, refused_change, change_answer};
+ghost use Rattle.graph_model.specs.ById.{ElementsComeById};
 ghost use Rattle.graph_model.specs.ChangeLaws.{FittingChangeKeepsGraph, IdsAreNotUsedAgain};
 ghost use Rattle.graph_model.specs.SmallStore.{empty_graph, make_small_store, small_store, without_node_2};
 
@@ -26,4 +27,9 @@ pub fn fitting_change_keeps_graph()
 /// No change uses an id again: no counter falls, and an id that was given before and doesn't live never lives again.
 pub fn ids_are_not_used_again()
     ensures { IdsAreNotUsedAgain }
+{}
+
+/// In a valid graph the nodes, and the relationships, are those that live of each id, one id after another.
+pub fn elements_come_by_id()
+    ensures { ElementsComeById }
 {}

@@ -1,4 +1,3 @@
 -- What keepers tell, and what a keeper in memory does.
 pub mod Keeping
 pub mod MemKeeper
-pub mod Loading

@@ -4,6 +4,7 @@ ghost use Rattle.std.specs.List.{cons_option};
 ghost use Rattle.std.specs.Option.{option_copied};
 ghost use Rattle.graph_model.specs.Graph.{IsValidGraph};
 
+use graph_model::laws::elements_come_by_id;
 use graph_model::{List, Mem, Node, PropertyGraph, Rel, TryClone};
 use graph_store::Store;
 use std::alloc::Global;
@@ -23,6 +24,7 @@ fn nodes_of(alloc: Global, store: &Store) -> Result<List<Node>, Mem>
     requires { IsValidGraph store.now }
     ensures { IfOk result (λ nodes. nodes ≡ store.now.nodes) }
 {
+    elements_come_by_id();
     let mut nodes = List::new(alloc);
     for id in 0..store.next_node() {
         push_found(&mut nodes, store.node(id))?;
@@ -35,6 +37,7 @@ fn rels_of(alloc: Global, store: &Store) -> Result<List<Rel>, Mem>
     requires { IsValidGraph store.now }
     ensures { IfOk result (λ rels. rels ≡ store.now.rels) }
 {
+    elements_come_by_id();
     let mut rels = List::new(alloc);
     for id in 0..store.next_rel() {
         push_found(&mut rels, store.rel(id))?;

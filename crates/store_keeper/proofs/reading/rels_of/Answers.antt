@@ -1,13 +1,23 @@
-use Rattle.std.proofs.Common.{arith}
-use Rattle.graph_store.specs.Stored.{rel_id}
-use Rattle.store_keeper.proofs.ById.{start, next_copied, all_copied}
+use Rattle.std.proofs.Common.{List, ◌≡◌, ◌++◌, [], sym, ap, ◌∙◌, arith}
+use Rattle.std.specs.List.{cons_option, find}
+use Rattle.graph_model.specs.declared.graph.Rel.{Rel}
+use Rattle.graph_model.specs.Graph.{is_rel}
+use Rattle.graph_model.specs.ById.{rels_below}
 use Rattle.store_keeper.proofs.reading.rels_of.Goals as goal
 
 pub loop-id-init : goal.loop-id-init
-loop-id-init c = start rel_id _ _ c.new-rels.ensures
+loop-id-init c = c.new-rels.ensures ∙ sym (c.elements_come_by_id.ensures c.args.store.now c.requires).1.first
 
 pub loop-id-preserved : goal.loop-id-preserved
-loop-id-preserved c = next_copied rel_id _ _ _ _ _ c.requires.rels_ascend c.loop-id.invariant c.rel.ensures c.in_ok-push_found.ensures
+loop-id-preserved c =
+    c.in_ok-push_found.ensures
+    ∙ ap (λ found. c.loop-id.rels ++ cons_option found []) c.rel.ensures
+    ∙ ap (λ (front : List Rel). front ++ cons_option (find (is_rel c.loop-id.id) c.args.store.now.rels) []) c.loop-id.invariant
+    ∙ sym ((c.elements_come_by_id.ensures c.args.store.now c.requires).1.next c.loop-id.id)
 
 pub returns : goal.returns
-returns c = all_copied rel_id _ _ _ _ c.requires.rel_ids (omega arith) c.loop-id.invariant
+returns c =
+    let ended : c.loop-id.id ≡ c.args.store.now.next_rel = omega arith in
+    c.loop-id.invariant
+    ∙ ap (λ id. rels_below id c.args.store.now) ended
+    ∙ (c.elements_come_by_id.ensures c.args.store.now c.requires).1.last
