@@ -11,6 +11,7 @@
 --   MayStand mark event part  which marks may stand on an event
 --   IsWellFormed event        what must hold of an event alone
 --   IsReady event part        what must hold of an event in a state
+--   IsStep event old r new    one part, a reply and another part are a step, with the mark that the reply shows
 use Rattle.std.specs.Prelude.{◌≡◌, ℕ, ℤ, nat_lt, Bool, true, false, not, if◌then◌else◌, IsTrue, List, [], ◌∷◌, length, Option, Some, None}
 use Rattle.std.specs.Str.{bytes_eq}
 use Rattle.std.specs.Ordering.{nat_cmp}
@@ -199,3 +200,9 @@ abbrev pub is_fault : Mark → Bool
 is_fault Plain = false
 is_fault OutOfMemory = false
 is_fault Fault = true
+
+-- an event that is answered like this in one part leaves this other part: a step with the mark that the reply shows, which may stand
+pub record IsStep (event : Event) (old : Part) (reply : PlainReply) (new : Part) : Type 0 where
+  pub mark : MayStand (mark_of reply) event old
+  pub answer : reply ≡ (step (mark_of reply) event old).reply
+  pub left : new ≡ (step (mark_of reply) event old).part

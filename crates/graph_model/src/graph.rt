@@ -1,10 +1,12 @@
 // The property graph, and the plain types that stand beside it.
-ghost use Rattle.std.specs.Prelude.{◌≡◌, length};
+ghost use Rattle.std.specs.Prelude.{◌≡◌, ◌<◌, [], ◌∷◌, ◌++◌, length, IfOk};
+ghost use Rattle.std.specs.List.{AllByRecursion};
 ghost use Rattle.std.specs.List.Sorted.{IsStrictlyIncreasing};
 
 use crate::list::List;
 use crate::memory::{Mem, TryClone};
 use crate::name::Name;
+use std::alloc::Global;
 
 /// A key and its value.
 #[derive(Debug, Drop)]
@@ -67,6 +69,36 @@ pub struct Column {
     pub values: List<i64>,
     pub ghost ascending: { IsStrictlyIncreasing ids },
     pub ghost paired: { length values ≡ length ids },
+}
+
+impl Column {
+    /// A column without rows. It takes no memory.
+    pub fn new(alloc: Global) -> Column
+        ensures ids { result.ids ≡ [] }
+        ensures values { result.values ≡ [] }
+    {
+        Column {
+            ids: List::new(alloc),
+            values: List::new(alloc),
+        }
+    }
+
+    /// The column with one more row, whose id comes behind all others.
+    ///
+    /// # Errors
+    /// `Mem` where there is no room. Then the column is gone.
+    pub fn with_row(self, id: u32, value: i64) -> Result<Column, Mem>
+        requires { AllByRecursion (λ before. before < id) self.ids }
+        ensures ids { IfOk result (λ column. column.ids ≡ self.ids ++ id ∷ []) }
+        ensures values { IfOk result (λ column. column.values ≡ self.values ++ value ∷ []) }
+    {
+        let Column { ids, values } = self;
+        let mut ids = ids;
+        let mut values = values;
+        ids.push(id)?;
+        values.push(value)?;
+        Ok(Column { ids, values })
+    }
 }
 
 impl TryClone for Prop {

@@ -94,7 +94,9 @@ impl Store {
 
     /// The id that the next new node takes.
     pub fn next_node(&self) -> u32
-        ensures { result ≡ self.now.next_node }
+        ensures next { result ≡ self.now.next_node }
+        ensures valid { IsValidGraph self.now }
+        ensures limits { IsWithinLimits self.now }
     {
         self.nodes.len() as u32
     }
@@ -199,7 +201,9 @@ impl Snapshot {
 
     /// The id that the next new node takes; all nodes have ids below it.
     pub fn next_node(&self) -> u32
-        ensures { result ≡ self.now.next_node }
+        ensures next { result ≡ self.now.next_node }
+        ensures valid { IsValidGraph self.now }
+        ensures limits { IsWithinLimits self.now }
     {
         self.store.next_node()
     }

@@ -5,6 +5,7 @@
 //! left to the desk.
 #![tactic(auto)]
 
+mod importing;
 pub mod laws;
 mod lists;
 #[cfg(test)]

@@ -3,7 +3,7 @@ ghost use Rattle.std.specs.Prelude.{◌≡◌, length, Some, OnOk, OnErr};
 ghost use Rattle.graph_model.specs.Projection.{under};
 ghost use Rattle.desk_model.specs.State.{no_lists};
 ghost use Rattle.desk_model.specs.Step.{with_answer};
-ghost use Rattle.user_lists.specs.Imports.{without_answer};
+ghost use Rattle.user_lists.specs.Imports.{lists_without_answer};
 
 use graph_model::{ChangeReply, Mem, Tag, TryClone};
 use std::alloc::Global;
@@ -63,7 +63,7 @@ impl UserLists {
 
     /// Forgets the answer under an import id. It takes no memory.
     pub fn forget_answer(&mut self, id: &Tag)
-        ensures { self.new ≡ record self.old { imports = without_answer id.now self.old.imports } }
+        ensures { self.new ≡ lists_without_answer id.now self.old }
     {
         self.imports.remove(id);
     }

@@ -1,5 +1,5 @@
 // The lists of all users.
-ghost use Rattle.std.specs.Prelude.{◌≡◌, ◌≢◌, ℕ, List, [], IsSome, IfSome, OnOk, OnErr, option_copied};
+ghost use Rattle.std.specs.Prelude.{◌≡◌, ◌≢◌, ℕ, List, [], IsSome, IfNone, OnOk, option_copied};
 ghost use Rattle.graph_model.specs.Projection.{under};
 ghost use Rattle.user_lists.specs.Users.{lists_of, OthersStay};
 
@@ -62,6 +62,7 @@ impl Users {
         ensures value { result ≡ under user.now self.old }
         ensures others { OthersStay user.now self.old self.new }
         ensures open { IsSome result → IsSome (under user.now self.new) }
+        ensures none { IfNone result (self.new ≡ self.old) }
     {
         match self.lists.get_mut(user) {
             Some(lists) => Some(mem::replace(lists, UserLists::new(alloc))),

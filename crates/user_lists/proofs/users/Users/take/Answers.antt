@@ -28,3 +28,10 @@ returns-clause-open c some =
       | in-Some w ↦ rw (w.self-inside-is, (c.get_mut.follows.holds w.replace.new.dest).0) (there_written c.args.user.now w.replace.new.dest c.self.inside.lists.entries (there c.args.user.now w.in-Some.lists.now c.self.inside.lists.entries w.in-Some.ensures.value))
       | in-None w ↦ absurd (true≢false (sym (rw w.result-is at some)))
     ]
+
+pub returns-clause-none : goal.returns-clause-none
+returns-clause-none c =
+    elim c.match-get_mut.branch [
+      | in-Some w ↦ rw w.result-is tt
+      | in-None w ↦ rw w.result-is (rw (w.self-inside-is, c.get_mut.follows.holds-at-none) c.self.view_is)
+    ]
