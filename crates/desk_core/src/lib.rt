@@ -1,13 +1,15 @@
-// A library with one function.
+//! The desk: the machine that answers every event.
+//!
+//! `Desk::apply` is one step of the machine (`desk_model`'s table), with the mark that its reply shows, and what the keeper
+//! tells is the desk's graph after every event: both are kept in the type. A change takes all its memory before the keeper
+//! is touched. The lists of one user are `user_lists`', the graph is the store's.
 #![tactic(auto)]
 
-ghost use Rattle.std.specs.Prelude.{◌≡◌};
-ghost use Rattle.desk_core.specs.Echo.{echo_of};
+mod changing;
+mod desk;
+mod importing;
+mod replies;
+mod rows;
 
-// The `ensures` clause is the contract: what `echo` returns is `echo_of` of its argument, a definition
-// in `specs/Echo.antt`, which a caller's clause can cite too.
-pub fn echo(x: usize) -> usize
-    ensures { result ≡ echo_of x }
-{
-    x
-}
+pub use desk::Desk;
+pub use desk_model::{Asked, Call, Event, Reply};

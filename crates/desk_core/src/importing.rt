@@ -1,0 +1,103 @@
+// Changes whose answers are kept under import ids.
+ghost use Rattle.std.specs.Prelude.{◌≡◌, ◌≤◌, Some, None, Ok, Err, IfOk, IfErr, OnOk, OnErr};
+ghost use Rattle.gds_causes.specs.Faults.{Rose};
+ghost use Rattle.graph_model.specs.Change.{IsWellFormedChange, after_change, refused_change, change_answer};
+ghost use Rattle.store_keeper.specs.Keeping.{IsTold};
+ghost use Rattle.desk_model.specs.Step.{kept_answer, with_answer, IsStep};
+ghost use Rattle.user_lists.specs.Users.{lists_of, OthersStay};
+ghost use Rattle.desk_core.specs.Answered.{IsCause, change_reply};
+
+use crate::changing::keep_and_make;
+use crate::replies::not_kept;
+use desk_model::Event;
+use graph_model::{Change, ChangeReply, Counter, Refusal, Tag};
+use graph_store::Store;
+use std::alloc::Global;
+use store_keeper::Keeper;
+use user_lists::Users;
+use user_lists::laws::forgetting_undoes_keeping;
+
+const MOST_IMPORTS: usize = 65_536;
+
+/// Makes a change under an import id under which no answer is kept. The answer is kept first, since that takes memory, and
+/// forgotten again where the keeper fails.
+fn make_import<K: Keeper>(
+    keeper: &mut K,
+    store: &mut Store,
+    users: &mut Users,
+    alloc: Global,
+    user: &Tag,
+    id: &Tag,
+    change: &Change,
+) -> Result<ChangeReply, Refusal>
+    requires formed { IsWellFormedChange change.now }
+    requires told { IsTold (K.graph keeper.old) store.old }
+    requires new { kept_answer (Some id.now) (lists_of users.old user.now) ≡ None }
+    ensures ok { IfOk result (λ answer. answer ≡ change_answer store.old change.now) }
+    ensures made { OnOk result (store.new ≡ after_change store.old change.now) }
+    ensures kept { OnOk result (lists_of users.new user.now ≡ with_answer (Some id.now) (change_answer store.old change.now) (lists_of users.old user.now)) }
+    ensures allowed { OnOk result (refused_change store.old change.now ≡ None) }
+    ensures err { OnErr result (store.new ≡ store.old) }
+    ensures err_lists { OnErr result (lists_of users.new user.now ≡ lists_of users.old user.now) }
+    ensures refused { IfErr result (λ why. IsCause why (refused_change store.old change.now)) }
+    ensures others { OthersStay user.now users.old users.new }
+    ensures told { IsTold (K.graph keeper.new) store.new }
+    ensures path { K.path keeper.new ≡ K.path keeper.old }
+    ensures fault { result ≡ Err (Refusal.StoreFault 0) → Rose (K.faults keeper.old) (K.faults keeper.new) }
+    ensures later { K.faults keeper.old ≤ K.faults keeper.new }
+{
+    forgetting_undoes_keeping();
+    let made = match store.prepare(alloc, change) {
+        Ok(made) => made,
+        Err(why) => return Err(why),
+    };
+    let answer = made.answer();
+    if users.keep_answer(alloc, user, id, answer).is_err() {
+        return Err(Refusal::Mem);
+    }
+    match keep_and_make(keeper, store, alloc, change, made) {
+        Ok(()) => Ok(answer),
+        Err(why) => {
+            users.forget_answer(alloc, user, id);
+            Err(not_kept(why))
+        }
+    }
+}
+
+/// Makes a change under an import id, or gives the answer that is kept under it.
+///
+/// # Errors
+/// `CounterSpent` where the id is new and as many answers are kept as may be; what the change is refused for; `StoreFault`
+/// where the keeper failed; or `Mem`. Then the store and the user's lists are as they were.
+pub(crate) fn import_change<K: Keeper>(
+    keeper: &mut K,
+    store: &mut Store,
+    users: &mut Users,
+    alloc: Global,
+    user: &Tag,
+    id: &Tag,
+    change: &Change,
+) -> Result<ChangeReply, Refusal>
+    requires formed { IsWellFormedChange change.now }
+    requires told { IsTold (K.graph keeper.old) store.old }
+    ensures step { IsStep (Event.Change (Some id.now) change.now)
+        (record { graph = store.old; lists = lists_of users.old user.now })
+        (change_reply result)
+        (record { graph = store.new; lists = lists_of users.new user.now }) }
+    ensures others { OthersStay user.now users.old users.new }
+    ensures told { IsTold (K.graph keeper.new) store.new }
+    ensures path { K.path keeper.new ≡ K.path keeper.old }
+    ensures fault { result ≡ Err (Refusal.StoreFault 0) → Rose (K.faults keeper.old) (K.faults keeper.new) }
+    ensures later { K.faults keeper.old ≤ K.faults keeper.new }
+{
+    if let Some(answer) = users.kept_answer(user, id) {
+        return Ok(answer);
+    }
+    if users.import_count(user) >= MOST_IMPORTS {
+        return Err(Refusal::CounterSpent {
+            counter: Counter::Imports,
+            last: MOST_IMPORTS as u64,
+        });
+    }
+    make_import(keeper, store, users, alloc, user, id, change)
+}
