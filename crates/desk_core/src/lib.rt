@@ -10,6 +10,8 @@ mod desk;
 mod importing;
 mod replies;
 mod rows;
+#[cfg(test)]
+mod tests;
 
 pub use desk::Desk;
 pub use desk_model::{Asked, Call, Event, Reply};
