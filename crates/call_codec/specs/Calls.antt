@@ -2,8 +2,10 @@
 --   procedure_named name      the procedure of a name
 --   arguments_of procedure    the names of its arguments, in the order in which they are judged
 --   required, optional        an argument, or the refusal of it
+--   list_or_empty             an argument that is a list
 --   call_of procedure args    the call of a procedure with these arguments, or the first argument that is wrong
 use Rattle.std.specs.Prelude.{ℕ, ℤ, nat_eq, Bool, if◌then◌else◌, List, [], ◌∷◌, length, Option, Some, None, option_and_then, unwrap_or, Result, Ok, Err, codes}
+use Rattle.std.specs.List.{list_all}
 use Rattle.std.specs.Cmp.Lexicographic.{pointwise}
 use Rattle.serde_json.specs.Data.{Data}
 use Rattle.serde_json.specs.Find.{get}
@@ -18,8 +20,8 @@ use Rattle.desk_model.specs.declared.call.Call.{Call}
 use Rattle.desk_model.specs.declared.call.Call.TheVariants as call
 use Rattle.call_codec.specs.declared.procedure.Procedure.{Procedure}
 use Rattle.call_codec.specs.declared.procedure.Procedure.TheVariants.{Create, SetNodes, SetRels, DeleteNodes, DeleteRels, NodeProperty}
-use Rattle.call_codec.specs.Words.{read_name, read_tag, read_id, read_pair, read_list, read_choice, given}
-use Rattle.call_codec.specs.Elements.{read_node, rels_among}
+use Rattle.call_codec.specs.Words.{read_name, read_tag, read_id, read_pair, read_list, read_choice, given, said_or_empty}
+use Rattle.call_codec.specs.Elements.{read_node, read_rel, are_ends_below}
 
 -- whether a text is this one
 abbrev pub is_text : List ℕ → List ℕ → Bool
@@ -58,6 +60,10 @@ required at read args = right_at at (option_and_then read (get at args))
 abbrev pub optional : {A : Type 0} → List ℕ → (Data → Option A) → Data → Result (Option A) Refusal
 optional at read args = right_at at (given read (get at args))
 
+-- an argument that is a list, which is empty where it is missing
+abbrev pub list_or_empty : {A : Type 0} → List ℕ → (Data → Option A) → Data → Result (List A) Refusal
+list_or_empty at read args = right_at at (said_or_empty (read_list read) (get at args))
+
 -- two results, or the first refusal
 abbrev pub both : {A B : Type 0} → Result A Refusal → Result B Refusal → Result (A × B) Refusal
 both (Err why) b = Err why
@@ -74,16 +80,17 @@ abbrev pub made : {A B : Type 0} → (A → B) → Result A Refusal → Result B
 made make (Err why) = Err why
 made make (Ok value) = Ok (make value)
 
--- a call that creates nodes and relationships
-abbrev pub creation : Option (List ℕ) → List NewNode → Option (List NewRel) → Call
-creation import nodes rels = call.Create import (change.Create nodes (unwrap_or rels []))
+-- a call that creates nodes and relationships, whose new ends lie below the number of the nodes
+abbrev pub creation : Option (List ℕ) → List NewNode → List NewRel → Option Call
+creation import nodes rels =
+    if list_all (are_ends_below (length nodes)) rels then Some (call.Create import (change.Create nodes rels)) else None
+
+abbrev pub creation_of : Option (List ℕ) → List NewNode → List NewRel → Result Call Refusal
+creation_of import nodes rels = right_at (codes "relationships") (creation import nodes rels)
 
 -- the same, with an import id and nodes that were read
-abbrev pub create_among : Data → Option (List ℕ) → List NewNode → Result Call Refusal
-create_among args import nodes = made (creation import nodes) (optional (codes "relationships") (rels_among (length nodes)) args)
-
-abbrev pub create_with : Data → Option (List ℕ) × Option (List NewNode) → Result Call Refusal
-create_with args read = create_among args read.0 (unwrap_or read.1 [])
+abbrev pub create_with : Data → Option (List ℕ) × List NewNode → Result Call Refusal
+create_with args read = followed (creation_of read.0 read.1) (list_or_empty (codes "relationships") read_rel args)
 
 -- a call that sets values of nodes, or of relationships
 abbrev pub set_nodes : List ℕ × List (ℕ × ℤ) → Call
@@ -106,7 +113,7 @@ node_property read = call.StoreRows read.0 (unwrap_or read.1 All)
 -- the call of a procedure with these arguments, or the first argument that is wrong
 abbrev pub call_of : Procedure → Data → Result Call Refusal
 call_of Create args =
-    followed (create_with args) (both (optional (codes "importId") read_tag args) (optional (codes "nodes") (read_list read_node) args))
+    followed (create_with args) (both (optional (codes "importId") read_tag args) (list_or_empty (codes "nodes") read_node args))
 call_of SetNodes args = made set_nodes (both (required (codes "key") read_name args) (required (codes "values") (read_list read_pair) args))
 call_of SetRels args = made set_rels (both (required (codes "key") read_name args) (required (codes "values") (read_list read_pair) args))
 call_of DeleteNodes args = made delete_nodes (required (codes "ids") (read_list read_id) args)

@@ -4,9 +4,8 @@
 --   read_node         a new node
 --   read_end          an end of a new relationship
 --   read_rel          a new relationship
---   rels_among count  new relationships whose new ends lie below a number of nodes
-use Rattle.std.specs.Prelude.{ℕ, ℤ, nat_lt, Bool, true, false, ◌&&◌, if◌then◌else◌, List, [], ◌∷◌, Option, Some, None, option_map, option_and_then, unwrap_or, codes}
-use Rattle.std.specs.List.{list_all}
+--   are_ends_below    whether the new ends of a relationship lie below a number of nodes
+use Rattle.std.specs.Prelude.{ℕ, ℤ, nat_lt, Bool, true, false, ◌&&◌, if◌then◌else◌, List, [], ◌∷◌, Option, Some, None, option_map, option_and_then, codes}
 use Rattle.std.specs.Ordering.{nat_cmp}
 use Rattle.std.specs.BTreeSet.{insert_key}
 use Rattle.std.specs.Cmp.Lexicographic.{slice_cmp}
@@ -17,7 +16,9 @@ use Rattle.graph_model.specs.declared.change.NewNode.{NewNode}
 use Rattle.graph_model.specs.declared.change.NewRel.{NewRel}
 use Rattle.graph_model.specs.declared.change.Place.{Place}
 use Rattle.graph_model.specs.declared.change.Place.TheVariants.{Old, New}
-use Rattle.call_codec.specs.Words.{name_of, read_name, read_id, read_whole, read_list, before_others, given, has_only}
+use Rattle.graph_model.specs.Lists.{Pairwise}
+use Rattle.graph_model.specs.Change.{KeysDiffer}
+use Rattle.call_codec.specs.Words.{name_of, read_name, read_id, read_whole, read_list, before_others, said_or_empty, has_only}
 
 -- a key and its value, where both are right
 abbrev pub prop_from : Option (List ℕ) → Option ℤ → Option Prop
@@ -42,16 +43,20 @@ put_names ordered (name ∷ names) = put_names (insert_key (slice_cmp nat_cmp) o
 abbrev pub each_once : List (List ℕ) → List (List ℕ)
 each_once names = put_names [] names
 
--- a new node, where its labels and its values are right; what isn't given is empty
-abbrev pub node_from : Option (Option (List (List ℕ))) → Option (Option (List Prop)) → Option NewNode
-node_from (Some labels) (Some props) = Some (record { labels = each_once (unwrap_or labels []); props = unwrap_or props [] })
+-- a list of names, in ascending order, each once
+abbrev pub read_labels : Data → Option (List (List ℕ))
+read_labels value = option_map each_once (read_list read_name value)
+
+-- a new node, where its labels and its values are right
+abbrev pub node_from : Option (List (List ℕ)) → Option (List Prop) → Option NewNode
+node_from (Some labels) (Some props) = Some (record { labels = labels; props = props })
 node_from (Some labels) None = None
 node_from None props = None
 
 abbrev pub read_node : Data → Option NewNode
 read_node value =
     if has_only (codes "labels" ∷ codes "properties" ∷ []) value
-    then node_from (given (read_list read_name) (get (codes "labels") value)) (given read_props (get (codes "properties") value))
+    then node_from (said_or_empty read_labels (get (codes "labels") value)) (said_or_empty read_props (get (codes "properties") value))
     else None
 
 -- an end of a new relationship: an id, or the place of a new node
@@ -67,17 +72,21 @@ read_end (array items) = None
 read_end (object fields) = new_end (object fields)
 
 -- a new relationship, where its ends, its type and its values are right
-abbrev pub rel_from : Option Place → Option Place → Option (List ℕ) → Option (Option (List Prop)) → Option NewRel
+abbrev pub rel_from : Option Place → Option Place → Option (List ℕ) → Option (List Prop) → Option NewRel
 rel_from (Some source) (Some target) (Some kind) (Some props) =
-    Some (record { source = source; target = target; kind = kind; props = unwrap_or props [] })
+    Some (record { source = source; target = target; kind = kind; props = props })
 rel_from _ _ _ _ = None
 
 abbrev pub read_rel : Data → Option NewRel
 read_rel value =
     if has_only (codes "source" ∷ codes "target" ∷ codes "type" ∷ codes "properties" ∷ []) value
     then rel_from (option_and_then read_end (get (codes "source") value)) (option_and_then read_end (get (codes "target") value))
-    (option_and_then read_name (get (codes "type") value)) (given read_props (get (codes "properties") value))
+    (option_and_then read_name (get (codes "type") value)) (said_or_empty read_props (get (codes "properties") value))
     else None
+
+-- the keys of a relationship are distinct
+abbrev pub HasDistinctKeys : NewRel → Type 0
+HasDistinctKeys rel = Pairwise KeysDiffer rel.props
 
 -- whether an end names no new node from this number on
 abbrev pub is_end_below : ℕ → Place → Bool
@@ -86,10 +95,3 @@ is_end_below count (New index) = nat_lt index count
 
 abbrev pub are_ends_below : ℕ → NewRel → Bool
 are_ends_below count rel = is_end_below count rel.source && is_end_below count rel.target
-
--- relationships whose new ends lie below the number of new nodes
-abbrev pub with_ends_below : ℕ → List NewRel → Option (List NewRel)
-with_ends_below count rels = if list_all (are_ends_below count) rels then Some rels else None
-
-abbrev pub rels_among : ℕ → Data → Option (List NewRel)
-rels_among count value = option_and_then (with_ends_below count) (read_list read_rel value)

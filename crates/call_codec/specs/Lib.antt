@@ -5,3 +5,4 @@ pub mod Words
 pub mod Elements
 pub mod Calls
 pub mod Lines
+pub mod LineLaws

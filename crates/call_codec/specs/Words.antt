@@ -5,6 +5,7 @@
 --   read_list read          a list whose items all have a form
 --   read_choice             `*`, a name, or a list of these that isn't empty
 --   given read said         what a field says, where it is there
+--   said_or_empty           the same of a list that is empty where it isn't there
 --   has_only names value    whether a value is an object with no other fields
 use Rattle.std.specs.Prelude.{ℕ, ℤ, nat_eq, nat_lt, ◌^◌, Bool, true, false, ◌&&◌, if◌then◌else◌, List, [], ◌∷◌, Option, Some, None, option_map, option_and_then, codes}
 use Rattle.std.specs.List.{list_any}
@@ -113,6 +114,11 @@ read_choice value = option_map choice_of (option_and_then some_item (chosen_item
 abbrev pub given : {A : Type 0} → (Data → Option A) → Option Data → Option (Option A)
 given read None = Some None
 given read (Some value) = option_map Some (read value)
+
+-- what a field says, where it is there, or an empty list
+abbrev pub said_or_empty : {A : Type 0} → (Data → Option (List A)) → Option Data → Option (List A)
+said_or_empty read None = Some []
+said_or_empty read (Some value) = read value
 
 -- whether a text is one of these
 abbrev pub is_among : List (List ℕ) → List ℕ → Bool
