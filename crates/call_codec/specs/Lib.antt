@@ -6,3 +6,4 @@ pub mod Elements
 pub mod Calls
 pub mod Lines
 pub mod LineLaws
+pub mod WorkedRows
