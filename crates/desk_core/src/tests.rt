@@ -32,7 +32,7 @@ enum Seen {
     Other,
 }
 
-fn seen(reply: Reply) -> Seen {
+fn what_of(reply: Reply) -> Seen {
     match reply {
         Reply::Created { nodes, .. } => Seen::Made(nodes),
         Reply::Refused(Refusal::StoreFault { batches }) => Seen::Fault(batches),
@@ -54,7 +54,7 @@ fn import(
     let user = Tag::read(alloc, user.as_bytes())?;
     let import = Some(Tag::read(alloc, id.as_bytes())?);
     let event = Event::Change { import, change };
-    Ok(seen(desk.apply(alloc, Asked { user, event })))
+    Ok(what_of(desk.apply(alloc, Asked { user, event })))
 }
 
 // No nodes and no relationships are made.

@@ -1,0 +1,60 @@
+use Rattle.std.proofs.Common.{refl}
+use Rattle.std.specs.Fmt.{digits}
+use Rattle.call_codec.specs.Answers.{field_name, first_field, number_field, whole_field, text_field, refusal_body}
+use Rattle.call_codec.proofs.laws.worked_answers.Goals as goal
+
+pub returns-clause-created : goal.returns-clause-created
+unfolding digits field_name first_field number_field whole_field text_field refusal_body
+returns-clause-created c = refl
+
+pub returns-clause-set : goal.returns-clause-set
+unfolding digits field_name first_field number_field whole_field text_field refusal_body
+returns-clause-set c = refl
+
+pub returns-clause-deleted : goal.returns-clause-deleted
+unfolding digits field_name first_field number_field whole_field text_field refusal_body
+returns-clause-deleted c = refl
+
+pub returns-clause-rows : goal.returns-clause-rows
+unfolding digits field_name first_field number_field whole_field text_field refusal_body
+returns-clause-rows c = refl
+
+pub returns-clause-no_rows : goal.returns-clause-no_rows
+unfolding digits field_name first_field number_field whole_field text_field refusal_body
+returns-clause-no_rows c = refl
+
+pub returns-clause-bad_json : goal.returns-clause-bad_json
+unfolding digits field_name first_field number_field whole_field text_field refusal_body
+returns-clause-bad_json c = refl
+
+pub returns-clause-too_long : goal.returns-clause-too_long
+unfolding digits field_name first_field number_field whole_field text_field refusal_body
+returns-clause-too_long c = refl
+
+pub returns-clause-argument : goal.returns-clause-argument
+unfolding digits field_name first_field number_field whole_field text_field refusal_body
+returns-clause-argument c = refl
+
+pub returns-clause-sum : goal.returns-clause-sum
+unfolding digits field_name first_field number_field whole_field text_field refusal_body
+returns-clause-sum c = refl
+
+pub returns-clause-filter : goal.returns-clause-filter
+unfolding digits field_name first_field number_field whole_field text_field refusal_body
+returns-clause-filter c = refl
+
+pub returns-clause-weight : goal.returns-clause-weight
+unfolding digits field_name first_field number_field whole_field text_field refusal_body
+returns-clause-weight c = refl
+
+pub returns-clause-entity : goal.returns-clause-entity
+unfolding digits field_name first_field number_field whole_field text_field refusal_body
+returns-clause-entity c = refl
+
+pub returns-clause-full : goal.returns-clause-full
+unfolding digits field_name first_field number_field whole_field text_field refusal_body
+returns-clause-full c = refl
+
+pub returns-clause-counter : goal.returns-clause-counter
+unfolding digits field_name first_field number_field whole_field text_field refusal_body
+returns-clause-counter c = refl
