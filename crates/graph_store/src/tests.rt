@@ -113,6 +113,16 @@ fn value(store: &Store) -> Option<i64> {
     Some(prop.value)
 }
 
+// Which names a store knows as a label, a type, and a key of nodes and of relationships.
+fn knows(store: &Store, name: &Name) -> [bool; 4] {
+    [
+        store.knows_label(name),
+        store.knows_type(name),
+        store.knows_node_key(name),
+        store.knows_rel_key(name),
+    ]
+}
+
 #[test]
 fn value_is_set(rt: HostRuntime) -> Result<(), Fail> {
     let alloc = rt.alloc();
@@ -120,6 +130,10 @@ fn value_is_set(rt: HostRuntime) -> Result<(), Fail> {
     let answer = make(&mut store, alloc, &weight(alloc)?)?;
     assert_eq!(rt; answer, ChangeReply::Set { pairs: 1 });
     assert_eq!(rt; value(&store), Some(9));
+    assert_eq!(rt;
+        knows(&store, &name(alloc, b"w")?),
+        [false, false, false, true]
+    );
     Ok(())
 }
 
