@@ -1,22 +1,20 @@
 -- How often elements have a name, as elements come, go and have values set.
-use Rattle.std.proofs.Common.{◌≡◌, ℕ, ℤ, ◌+◌, ◌-◌, ◌*◌, ◌<◌, ◌≤◌, Bool, true, false, cond, ◌||◌, List, [], ◌∷◌, ◌++◌, length, map, set, take, sum_by, Option, Some, None, refl, sym, ◌∙◌, ap, subst, inl, inr, arith}
-use Rattle.std.specs.Prelude.{count_by, nat_lt}
+use Rattle.std.proofs.Common.{◌≡◌, ℕ, ◌+◌, ◌-◌, ◌*◌, ◌<◌, Bool, true, false, cond, ◌||◌, List, [], ◌∷◌, ◌++◌, length, map, take, sum_by, Option, Some, None, refl, sym, ◌∙◌, ap, subst, arith}
+use Rattle.std.specs.Prelude.{nat_lt}
 use Rattle.std.specs.List.{list_any}
 use Rattle.std.specs.Option.{option_map}
 use Rattle.std.specs.Str.{bytes_eq}
 use Rattle.std.specs.BTreeMap.{BTreeMap}
-use Rattle.std.proofs.lemmas.Bool.{cases_Bool}
 use Rattle.std.proofs.lemmas.Bool.Decides.{nat_tests}
 use Rattle.std.proofs.lemmas.Grind.{common_steps}
 use Rattle.std.proofs.lemmas.List.Sums.{sum_by-cons, sum_by_more}
 use Rattle.std.proofs.Math.Seq.{take-append_seam}
-use Rattle.graph_model.specs.declared.graph.Node.{Node}
 use Rattle.graph_model.specs.declared.graph.Rel.{Rel}
 use Rattle.graph_model.specs.declared.graph.Prop.{Prop}
 use Rattle.graph_store.specs.Slots.{slot_at, living, slot_count}
-use Rattle.graph_store.specs.Counted.{times, count_under, own_name, prop_key, node_classes, rel_classes, node_props, rel_props, key_weight, IsCounted}
+use Rattle.graph_store.specs.Counted.{times, count_under, own_name, prop_key, rel_classes, rel_props, key_weight, IsCounted}
 use Rattle.graph_store.specs.Edits.{WeighsSame}
-use Rattle.graph_store.specs.Known.{has_label, has_type, is_under_key, node_stores, rel_stores}
+use Rattle.graph_store.specs.Known.{has_type, is_under_key}
 use Rattle.graph_store.proofs.SlotLemmas.{sum_by-living, sum_by-ones}
 
 -- ---- some item passes a test where a sum isn't 0

@@ -8,7 +8,6 @@
 --   IsLinkedUpTo                   both of these, for so many relationships and so many nodes
 use Rattle.std.specs.Prelude.{◌≡◌, ℕ, ◌<◌, ◌==◌, Bool, false, if◌then◌else◌, List, length, Option, Some, None, slice_index_or}
 use Rattle.std.proofs.Common.{suc, zero}
-use Rattle.graph_model.specs.declared.graph.Node.{Node}
 use Rattle.graph_model.specs.declared.graph.Rel.{Rel}
 use Rattle.graph_store.specs.declared.link.Link.{Link}
 use Rattle.graph_store.specs.declared.link.Latest.{Latest}

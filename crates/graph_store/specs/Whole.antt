@@ -1,6 +1,5 @@
 -- What a store keeps.
 use Rattle.std.specs.Prelude.{ℕ, List, length, Option}
-use Rattle.std.specs.BTreeMap.{BTreeMap}
 use Rattle.graph_model.specs.declared.graph.Node.{Node}
 use Rattle.graph_model.specs.declared.graph.Rel.{Rel}
 use Rattle.graph_store.specs.declared.link.Links.{Links}
