@@ -27,8 +27,8 @@ use Rattle.graph_store.specs.Slots.{slot_at, living, IsNumbered, kept, slot_coun
 use Rattle.graph_store.specs.Stored.{node_id, rel_id, graph_of, IsSound}
 use Rattle.graph_store.specs.Missing.{is_dead, IsMadeBy, new_node_values, new_rel_values, over_limits_with}
 use Rattle.graph_store.specs.Created.{created_node, created_rel}
-use Rattle.graph_store.specs.Edits.{is_unlisted, ends_live}
-use Rattle.graph_store.proofs.SlotLemmas.{id-at, IsNumbered-map, IsNumbered-kept, IsNumbered-++, living-map, living-kept, living-++, find-living, living-map_Some, list_any-find, sum_by-living}
+use Rattle.graph_store.specs.Edits.{is_unlisted, ends_live, WeighsSame}
+use Rattle.graph_store.proofs.SlotLemmas.{id-at, IsNumbered-map, IsNumbered-kept, IsNumbered-++, living-map, living-kept, living-++, find-living, living-map_Some, list_any-find, sum_by-living, sum_by-ones}
 use Rattle.graph_store.proofs.ValidLaws.{after_valid, after_within}
 
 -- ---- which ids are missing
@@ -204,20 +204,11 @@ allowed_values : (g : PropertyGraph) (c : Change) → find (node_missing g.nodes
 allowed_values g c nodes rels few_nodes few_rels few_values =
     refused_values g c nodes rels few_nodes few_rels ∙ within_limit quantity.Values most_values (value_count (after_change g c)) few_values
 
--- one of each
-sum_by-ones : {A : Type 0} (xs : List A) → sum_by (λ _. 1) xs ≡ length xs
-sum_by-ones [] = refl
-sum_by-ones (x ∷ xs) = omega (arith, sum_by-cons (λ _. 1) x xs, sum_by-ones xs)
-
 -- no more live than there are slots
 length-living : {A : Type 0} (slots : List (Option A)) → length (living slots) ≤ length slots
 length-living [] = omega arith
 length-living (None ∷ slots) = omega (arith, length-living slots)
 length-living (Some x ∷ slots) = omega (arith, length-living slots)
-
--- however much each element weighs: what is left and what is gone weigh what there was
-abbrev pub WeighsSame : {A : Type 0} → List (Option A) → List (Option A) → List A → Type 0
-WeighsSame {A} slots left gone = (weight : A → ℕ) → sum_by (slot_count weight) left + sum_by weight gone ≡ sum_by (slot_count weight) slots
 
 -- so many are gone as live no more
 gone_length : {A : Type 0} (slots left : List (Option A)) (gone : List A) → WeighsSame slots left gone → length (living left) + length gone ≡ length (living slots)

@@ -1,5 +1,5 @@
 -- Slots that are edited, one id after another.
-use Rattle.std.proofs.Common.{◌≡◌, ◌≢◌, ℕ, ℤ, ◌+◌, true, false, cond, eqb, List, [], ◌∷◌, ◌++◌, length, map, set, sum_by, Option, Some, None, refl, sym, ◌∙◌, ap, inl, inr, suc, zero, arith}
+use Rattle.std.proofs.Common.{◌≡◌, ◌≢◌, ℕ, ℤ, ◌+◌, ◌*◌, true, false, cond, eqb, List, [], ◌∷◌, ◌++◌, map, set, sum_by, Option, Some, None, refl, sym, ◌∙◌, ap, inl, inr, suc, zero, arith}
 use Rattle.std.specs.Prelude.{option_and_then, ◌||◌}
 use Rattle.std.specs.Option.{option_map}
 use Rattle.std.specs.Ordering.{nat_cmp}
@@ -8,10 +8,11 @@ use Rattle.std.proofs.lemmas.Bool.{cases_Bool, cases_eq, eq-eqb, ne_eqb}
 use Rattle.graph_model.specs.declared.graph.Prop.{Prop}
 use Rattle.graph_model.specs.Change.{last_value, pair_id, is_listed}
 use Rattle.graph_store.specs.Slots.{slot_at, IsNumbered, kept, slot_count}
+use Rattle.graph_store.specs.Counted.{key_weight}
 use Rattle.graph_store.specs.Edits.{edit_slot, gone, is_unlisted, set_by, with_value}
 use Rattle.graph_store.proofs.BoolFacts.{or-false, or-true, or-assoc}
 use Rattle.graph_store.proofs.SlotLemmas.{id-at, set-map}
-use Rattle.graph_store.proofs.SettingLemmas.{is_at-nat, last_value-unlisted}
+use Rattle.graph_store.proofs.SettingLemmas.{add_times, is_at-nat, last_value-unlisted}
 
 -- ---- one more id is listed
 
@@ -128,13 +129,13 @@ last_values_left pairs ids id other before after was now =
 pub record IsSetSoFar {A : Type 0} (id_of : A → ℕ) (props_of : A → List Prop) (with_props : A → List Prop → A) (key : List ℕ) (pairs : List (ℕ × ℤ)) (ids : List ℕ) (last : ℕ → Option ℤ) (before now : List (Option A)) (added : ℕ) : Type 0 where
   pub left : (id : ℕ) → last id ≡ cond (is_listed ids id) None (last_value pairs id)
   pub edited : now ≡ map (edit_slot id_of (λ x. Some (set_by id_of props_of with_props key pairs x)) ids) before
-  pub counted : sum_by (slot_count (λ x. length (props_of x))) now ≡ sum_by (slot_count (λ x. length (props_of x))) before + added
+  pub counted : (weight : List ℕ → ℕ) → sum_by (slot_count (λ x. key_weight weight (props_of x))) now ≡ sum_by (slot_count (λ x. key_weight weight (props_of x))) before + added * weight key
 
 pub IsSetSoFar-none : {A : Type 0} (id_of : A → ℕ) (props_of : A → List Prop) (with_props : A → List Prop → A) (key : List ℕ) (pairs : List (ℕ × ℤ)) (last : ℕ → Option ℤ) (before : List (Option A)) → ((id : ℕ) → last id ≡ last_value pairs id) → IsSetSoFar id_of props_of with_props key pairs [] last before before 0
 IsSetSoFar-none id_of props_of with_props key pairs last before left = record {
   left = left;
   edited = edit-none id_of (λ x. Some (set_by id_of props_of with_props key pairs x)) before;
-  counted = omega arith;
+  counted = λ weight. omega arith;
 }
 
 -- an element that no pair names stays as it is
@@ -156,7 +157,7 @@ set_by-listed id_of props_of with_props key pairs id value (Some x) is last =
     let own : last_value pairs (id_of x) ≡ Some value = rw (is x refl) last in rw own refl
 
 -- one more id, which wasn't named yet
-pub IsSetSoFar-more : {A : Type 0} (id_of : A → ℕ) (props_of : A → List Prop) (with_props : A → List Prop → A) (key : List ℕ) (pairs : List (ℕ × ℤ)) (ids : List ℕ) (last : ℕ → Option ℤ) (before now : List (Option A)) (added : ℕ) (id : ℕ) (value : ℤ) (left : ℕ → Option ℤ) (after : List (Option A)) (more : ℕ) → IsNumbered id_of 0 before → IsSetSoFar id_of props_of with_props key pairs ids last before now added → Some value ≡ last id → ((other : ℕ) → left other ≡ cond (is_at (nat_cmp id) other) None (last other)) → after ≡ set now id (option_map (with_value props_of with_props key value) (slot_at now id)) → sum_by (slot_count (λ x. length (props_of x))) after ≡ sum_by (slot_count (λ x. length (props_of x))) now + more → IsSetSoFar id_of props_of with_props key pairs (ids ++ id ∷ []) left before after (added + more)
+pub IsSetSoFar-more : {A : Type 0} (id_of : A → ℕ) (props_of : A → List Prop) (with_props : A → List Prop → A) (key : List ℕ) (pairs : List (ℕ × ℤ)) (ids : List ℕ) (last : ℕ → Option ℤ) (before now : List (Option A)) (added : ℕ) (id : ℕ) (value : ℤ) (left : ℕ → Option ℤ) (after : List (Option A)) (more : ℕ) → IsNumbered id_of 0 before → IsSetSoFar id_of props_of with_props key pairs ids last before now added → Some value ≡ last id → ((other : ℕ) → left other ≡ cond (is_at (nat_cmp id) other) None (last other)) → after ≡ set now id (option_map (with_value props_of with_props key value) (slot_at now id)) → ((weight : List ℕ → ℕ) → sum_by (slot_count (λ x. key_weight weight (props_of x))) after ≡ sum_by (slot_count (λ x. key_weight weight (props_of x))) now + more * weight key) → IsSetSoFar id_of props_of with_props key pairs (ids ++ id ∷ []) left before after (added + more)
 IsSetSoFar-more {A} id_of props_of with_props key pairs ids last before now added id value left after more numbered so_far is removed stored grown =
     let edit : A → Option A = λ x. Some (set_by id_of props_of with_props key pairs x) in
     let found = last_left pairs ids id value (last id) (so_far.left id) is in
@@ -165,7 +166,7 @@ IsSetSoFar-more {A} id_of props_of with_props key pairs ids last before now adde
     record {
       left = λ other. last_values_left pairs ids id other (last other) (left other) (so_far.left other) (removed other);
       edited = rw (stored, here, changed, so_far.edited) (edit-more id_of edit before ids id numbered);
-      counted = omega (arith, grown, so_far.counted);
+      counted = λ weight. omega (arith, grown weight, so_far.counted weight, add_times added more (weight key));
     }
 
 -- one more id, which was named before

@@ -1,6 +1,7 @@
 -- Rows in parts: where a row stands, and what becomes of the rows when one part changes.
 use Rattle.std.proofs.Common.{◌≡◌, ℕ, ◌+◌, ◌-◌, ◌*◌, ◌/◌, ◌%◌, ◌<◌, ◌≤◌, List, [], ◌∷◌, ◌++◌, length, set, get_or, Option, Some, None, refl, sym, ◌∙◌, ap, suc, zero, arith}
 use Rattle.std.specs.List.{slice_get}
+use Rattle.std.proofs.Math.Nat.{mul_comm}
 use Rattle.std.proofs.lemmas.List.{append-nil, append_assoc, length-append, length-set, set-append_left, set-append_right}
 use Rattle.std.proofs.lemmas.Option.{slice_get_past}
 use Rattle.graph_store.specs.Joined.{joined, IsFilled, last_length}
@@ -119,38 +120,42 @@ pub last_length-some : {A : Type 0} (none : ℕ) (parts : List (List A)) → las
 last_length-some none [] less = absurd (omega (arith, less))
 last_length-some none (first ∷ parts) less = omega arith
 
--- ---- parts of 1,024 rows
+-- ---- parts of so many rows
+
+-- the part of a row, and its place in it
+row_split : (room row : ℕ) → 0 < room → row ≡ row / room * room + row % room
+row_split room row some = omega (arith, mul_comm (row / room) room)
 
 -- a row that stands in a part, or past all parts
-pub row_found : {A : Type 0} (parts : List (List A)) (row : ℕ) (part : List A) → IsFilled 1024 parts → slice_get parts (row / 1024) ≡ Some part → slice_get (joined parts) row ≡ slice_get part (row % 1024)
-row_found parts row part filled is = joined_get 1024 parts row (row / 1024) (row % 1024) filled (omega arith) (omega arith) ∙ ap (row_in (row % 1024)) is
+pub row_found : {A : Type 0} (room : ℕ) (parts : List (List A)) (row : ℕ) (part : List A) → 0 < room → IsFilled room parts → slice_get parts (row / room) ≡ Some part → slice_get (joined parts) row ≡ slice_get part (row % room)
+row_found room parts row part some filled is = joined_get room parts row (row / room) (row % room) filled (omega arith) (row_split room row some) ∙ ap (row_in (row % room)) is
 
-pub row_missing : {A : Type 0} (parts : List (List A)) (row : ℕ) → IsFilled 1024 parts → slice_get parts (row / 1024) ≡ None → slice_get (joined parts) row ≡ None
-row_missing parts row filled is = joined_get 1024 parts row (row / 1024) (row % 1024) filled (omega arith) (omega arith) ∙ ap (row_in (row % 1024)) is
+pub row_missing : {A : Type 0} (room : ℕ) (parts : List (List A)) (row : ℕ) → 0 < room → IsFilled room parts → slice_get parts (row / room) ≡ None → slice_get (joined parts) row ≡ None
+row_missing room parts row some filled is = joined_get room parts row (row / room) (row % room) filled (omega arith) (row_split room row some) ∙ ap (row_in (row % room)) is
 
 -- where a row stands
-pub row_within : {A : Type 0} (parts : List (List A)) (row : ℕ) (default : List A) → IsFilled 1024 parts → row < length (joined parts) → (row / 1024 < length parts) × (row % 1024 < length (get_or parts (row / 1024) default))
-row_within parts row default filled within = joined_within 1024 parts default row (row / 1024) (row % 1024) filled (omega arith) (omega arith) within
+pub row_within : {A : Type 0} (room : ℕ) (parts : List (List A)) (row : ℕ) (default : List A) → 0 < room → IsFilled room parts → row < length (joined parts) → (row / room < length parts) × (row % room < length (get_or parts (row / room) default))
+row_within room parts row default some filled within = joined_within room parts default row (row / room) (row % room) filled (omega arith) (row_split room row some) within
 
 -- a row is set in its part
-pub row_set : {A : Type 0} (parts : List (List A)) (row : ℕ) (part : List A) (x : A) → IsFilled 1024 parts → row < length (joined parts) → part ≡ get_or parts (row / 1024) part → (joined (set parts (row / 1024) (set part (row % 1024) x)) ≡ set (joined parts) row x) × IsFilled 1024 (set parts (row / 1024) (set part (row % 1024) x))
-row_set parts row part x filled within here =
-    let there = row_within parts row part filled within in
-    let below : row % 1024 < length part = rw here there.1 in (
-      sym (joined-set 1024 parts row (row / 1024) (row % 1024) part x filled (omega arith) there.0 here below),
-      IsFilled-set 1024 parts (row / 1024) part (set part (row % 1024) x) filled there.0 here (length-set part (row % 1024) x),
+pub row_set : {A : Type 0} (room : ℕ) (parts : List (List A)) (row : ℕ) (part : List A) (x : A) → 0 < room → IsFilled room parts → row < length (joined parts) → part ≡ get_or parts (row / room) part → (joined (set parts (row / room) (set part (row % room) x)) ≡ set (joined parts) row x) × IsFilled room (set parts (row / room) (set part (row % room) x))
+row_set room parts row part x some filled within here =
+    let there = row_within room parts row part some filled within in
+    let below : row % room < length part = rw here there.1 in (
+      sym (joined-set room parts row (row / room) (row % room) part x filled (row_split room row some) there.0 here below),
+      IsFilled-set room parts (row / room) part (set part (row % room) x) filled there.0 here (length-set part (row % room) x),
     )
 
 -- the last part takes one more row where it has room
-pub row_pushed_last : {A : Type 0} (parts : List (List A)) (last : ℕ) (part : List A) (x : A) → IsFilled 1024 parts → last_length 1024 parts < 1024 → last + 1 ≡ length parts → part ≡ get_or parts last part → (joined (set parts last (part ++ x ∷ [])) ≡ joined parts ++ x ∷ []) × IsFilled 1024 (set parts last (part ++ x ∷ []))
-row_pushed_last parts last part x filled room is here =
+pub row_pushed_last : {A : Type 0} (room : ℕ) (parts : List (List A)) (last : ℕ) (part : List A) (x : A) → IsFilled room parts → last_length room parts < room → last + 1 ≡ length parts → part ≡ get_or parts last part → (joined (set parts last (part ++ x ∷ [])) ≡ joined parts ++ x ∷ []) × IsFilled room (set parts last (part ++ x ∷ []))
+row_pushed_last room parts last part x filled few is here =
     let count : suc last ≡ length parts = omega (arith, is) in
-    let long = last_length-at 1024 parts last part count here in
+    let long = last_length-at room parts last part count here in
     let one = length-append part (x ∷ []) in (
       joined-last parts last part x count here,
-      IsFilled-last 1024 parts last (part ++ x ∷ []) filled count (omega (arith, long, one, room)),
+      IsFilled-last room parts last (part ++ x ∷ []) filled count (omega (arith, long, one, few)),
     )
 
 -- a new part takes one more row where the last one has no room
-pub row_pushed_new : {A : Type 0} (parts : List (List A)) (x : A) → IsFilled 1024 parts → 1024 ≤ last_length 1024 parts → (joined (parts ++ (x ∷ []) ∷ []) ≡ joined parts ++ x ∷ []) × IsFilled 1024 (parts ++ (x ∷ []) ∷ [])
-row_pushed_new parts x filled full = (joined-new parts (x ∷ []), IsFilled-new 1024 1024 parts (x ∷ []) filled full (omega arith))
+pub row_pushed_new : {A : Type 0} (room : ℕ) (parts : List (List A)) (x : A) → 0 < room → IsFilled room parts → room ≤ last_length room parts → (joined (parts ++ (x ∷ []) ∷ []) ≡ joined parts ++ x ∷ []) × IsFilled room (parts ++ (x ∷ []) ∷ [])
+row_pushed_new room parts x some filled full = (joined-new parts (x ∷ []), IsFilled-new room room parts (x ∷ []) filled full (omega arith))

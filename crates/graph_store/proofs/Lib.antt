@@ -6,7 +6,9 @@ pub mod Placing
 pub mod SettingLemmas
 pub mod EditLemmas
 pub mod OrderLemmas
+pub mod TallyLemmas
 pub mod ValidValues
 pub mod ValidLaws
 pub mod ChangeLemmas
 pub mod LinkLemmas
+pub mod CensusLemmas

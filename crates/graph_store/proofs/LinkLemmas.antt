@@ -1,6 +1,6 @@
 -- What keeps links chained, and what a chain leads to.
-use Rattle.std.proofs.Common.{◌≡◌, ◌≢◌, ℕ, ℤ, ◌+◌, ◌<◌, ◌≤◌, Bool, true, false, cond, eqb, ltb, List, [], ◌∷◌, ◌++◌, length, map, set, take, get_or, replicate, reverse, unwrap_or, Option, Some, None, is_some, refl, sym, ◌∙◌, ap, subst, inl, inr, suc, zero, add-one, arith}
-use Rattle.std.specs.List.{AllByRecursion, cons_option, filter, slice_get}
+use Rattle.std.proofs.Common.{◌≡◌, ℕ, ℤ, ◌+◌, ◌<◌, ◌≤◌, Bool, true, false, cond, eqb, ltb, List, [], ◌∷◌, ◌++◌, length, map, set, take, get_or, replicate, reverse, unwrap_or, Option, Some, None, is_some, refl, sym, ◌∙◌, ap, subst, inl, inr, suc, zero, add-one, arith}
+use Rattle.std.specs.List.{AllByRecursion, filter, slice_get}
 use Rattle.std.specs.Option.{option_map}
 use Rattle.std.proofs.lemmas.Bool.{cases_eq, cases_Bool, eq-eqb, eqb-true, ne_eqb, ltb-true, ltb-false}
 use Rattle.std.proofs.lemmas.Option.{unwrap_or-slice_get}

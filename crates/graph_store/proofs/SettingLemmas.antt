@@ -1,5 +1,5 @@
 -- Values that are set, and the last value of each id.
-use Rattle.std.proofs.Common.{◌≡◌, ℕ, ℤ, ◌+◌, ◌-◌, ◌<◌, ◌≤◌, take, get_or, false, cond, eqb, List, [], ◌∷◌, ◌++◌, length, map, set, sum_by, Option, Some, None, refl, sym, ◌∙◌, ap, inl, inr, arith}
+use Rattle.std.proofs.Common.{◌≡◌, ℕ, ℤ, ◌+◌, ◌-◌, ◌*◌, suc, zero, ◌<◌, ◌≤◌, take, get_or, false, cond, eqb, List, [], ◌∷◌, ◌++◌, length, map, set, sum_by, Option, Some, None, refl, sym, ◌∙◌, ap, inl, inr, arith}
 use Rattle.std.specs.Ordering.{nat_cmp}
 use Rattle.std.specs.BTreeMap.{is_at}
 use Rattle.std.proofs.lemmas.List.{take_more}
@@ -8,7 +8,11 @@ use Rattle.std.proofs.lemmas.Bool.Decides.{nat_tests}
 use Rattle.std.specs.Cmp.Lexicographic.{slice_cmp}
 use Rattle.std.specs.declared.cmp.Ordering.{Ordering}
 use Rattle.std.specs.declared.cmp.Ordering.TheVariants.{Less, Equal, Greater}
+use Rattle.std.proofs.lemmas.List.Sums.{sum_by-cons}
+use Rattle.std.proofs.lemmas.Map.Lookups.{exact_bytes}
+use Rattle.std.proofs.Math.Nat.{mul-suc}
 use Rattle.graph_store.specs.Slots.{slot_at, slot_count}
+use Rattle.graph_store.specs.Counted.{key_weight}
 use Rattle.graph_store.proofs.SlotLemmas.{sum_by-set_slot}
 use Rattle.graph_model.specs.declared.graph.Prop.{Prop}
 use Rattle.graph_model.specs.Lists.{first_there}
@@ -30,11 +34,37 @@ length-set_prop key value (first ∷ rest) =
     let whole = length-place_prop (slice_cmp nat_cmp key first.key) (record { key = key; value = value }) first rest (set_prop key value rest) placed.0 placed.1 in
     (omega (arith, whole.0), omega (arith, whole.1))
 
--- how the number of values in the slots grows
-pub sum_by-set_value : {A : Type 0} (props_of : A → List Prop) (with_props : A → List Prop → A) (slots after : List (Option A)) (id : ℕ) (x : A) (copy : A) (slot : Option A) (props : List Prop) → after ≡ set slots id slot → slot ≡ Some copy → copy ≡ with_props x props → props_of (with_props x props) ≡ props → Some x ≡ slot_at slots id → length (props_of x) ≤ length props → sum_by (slot_count (λ element. length (props_of element))) after ≡ sum_by (slot_count (λ element. length (props_of element))) slots + (length props - length (props_of x))
-sum_by-set_value props_of with_props slots after id x copy slot props stored filled copied changed is grows =
-    let whole = sum_by-set_slot (λ element. length (props_of element)) slots id x (with_props x props) (sym is) in
-    rw (stored, filled, copied) (omega (arith, whole, ap length changed))
+-- how much the keys weigh then, by how the key compares with the first one's
+weight-place_prop : (o : Ordering) (weight : List ℕ → ℕ) (new first : Prop) (rest placed : List Prop) → (o ≡ Equal → new.key ≡ first.key) → length rest ≤ length placed → key_weight weight placed ≡ key_weight weight rest + (length placed - length rest) * weight new.key → key_weight weight (place_prop o new first rest placed) ≡ key_weight weight (first ∷ rest) + (length (place_prop o new first rest placed) - length (first ∷ rest)) * weight new.key
+weight-place_prop Less weight new first rest placed same low grown =
+    let more : length (new ∷ first ∷ rest) - length (first ∷ rest) ≡ 1 = omega arith in
+    rw more (omega (arith, sum_by-cons (λ (prop : Prop). weight prop.key) new (first ∷ rest)))
+weight-place_prop Equal weight new first rest placed same low grown =
+    let more : length (new ∷ rest) - length (first ∷ rest) ≡ 0 = omega arith in
+    let equal : weight new.key ≡ weight first.key = ap weight (same refl) in
+    rw more (omega (arith, equal, sum_by-cons (λ (prop : Prop). weight prop.key) new rest, sum_by-cons (λ (prop : Prop). weight prop.key) first rest))
+weight-place_prop Greater weight new first rest placed same low grown =
+    let more : length (first ∷ placed) - length (first ∷ rest) ≡ length placed - length rest = omega arith in
+    rw more (omega (arith, grown, sum_by-cons (λ (prop : Prop). weight prop.key) first placed, sum_by-cons (λ (prop : Prop). weight prop.key) first rest))
+
+weight-set_prop : (weight : List ℕ → ℕ) (key : List ℕ) (value : ℤ) (props : List Prop) → key_weight weight (set_prop key value props) ≡ key_weight weight props + (length (set_prop key value props) - length props) * weight key
+weight-set_prop weight key value [] =
+    let more : length (set_prop key value []) - length {A = Prop} [] ≡ 1 = refl in
+    rw more (omega arith)
+weight-set_prop weight key value (first ∷ rest) =
+    weight-place_prop (slice_cmp nat_cmp key first.key) weight (record { key = key; value = value }) first rest (set_prop key value rest) (exact_bytes key first.key) (length-set_prop key value rest).0 (weight-set_prop weight key value rest)
+
+-- how much more the keys in the slots weigh
+pub sum_by-set_value : {A : Type 0} (props_of : A → List Prop) (with_props : A → List Prop → A) (weight : List ℕ → ℕ) (key : List ℕ) (value : ℤ) (slots after : List (Option A)) (id : ℕ) (x : A) (copy : A) (slot : Option A) (props : List Prop) → after ≡ set slots id slot → slot ≡ Some copy → copy ≡ with_props x props → props_of (with_props x props) ≡ props → Some x ≡ slot_at slots id → props ≡ set_prop key value (props_of x) → sum_by (slot_count (λ element. key_weight weight (props_of element))) after ≡ sum_by (slot_count (λ element. key_weight weight (props_of element))) slots + (length props - length (props_of x)) * weight key
+sum_by-set_value props_of with_props weight key value slots after id x copy slot props stored filled copied changed is made =
+    let whole = sum_by-set_slot (λ element. key_weight weight (props_of element)) slots id x (with_props x props) (sym is) in
+    let grown : key_weight weight (props_of (with_props x props)) ≡ key_weight weight (props_of x) + (length props - length (props_of x)) * weight key = rw (changed, made) (weight-set_prop weight key value (props_of x)) in
+    rw (stored, filled, copied) (omega (arith, whole, grown))
+
+-- so many times as much and then more
+pub add_times : (a b n : ℕ) → (a + b) * n ≡ a * n + b * n
+add_times a b zero = omega arith
+add_times a b (suc n) = omega (arith, add_times a b n, mul-suc (a + b) n, mul-suc a n, mul-suc b n)
 
 -- ---- the last value of an id
 

@@ -115,6 +115,11 @@ sum_by-living count (None ∷ slots) = rw sum_by-cons (rw zero-add (sum_by-livin
 sum_by-living count (Some x ∷ slots) =
     sum_by-cons count x (living slots) ∙ ap (λ n. count x + n) (sum_by-living count slots) ∙ sym (sum_by-cons (slot_count count) (Some x) slots)
 
+-- one of each
+pub sum_by-ones : {A : Type 0} (xs : List A) → sum_by (λ _. 1) xs ≡ length xs
+sum_by-ones [] = refl
+sum_by-ones (x ∷ xs) = omega (arith, sum_by-cons (λ _. 1) x xs, sum_by-ones xs)
+
 -- an element stands under an id that was given
 pub slot_at-within : {A : Type 0} (slots : List (Option A)) (id : ℕ) (x : A) → slot_at slots id ≡ Some x → id < length slots
 slot_at-within [] id x is = cc

@@ -1,9 +1,9 @@
 -- Edits of slots, one id after another.
-use Rattle.std.specs.Prelude.{ℕ, ℤ, Bool, not, ◌&&◌, if◌then◌else◌, List, Option, Some, None, is_some}
+use Rattle.std.specs.Prelude.{◌≡◌, ℕ, ◌+◌, sum_by, ℤ, Bool, not, ◌&&◌, if◌then◌else◌, List, Option, Some, None, is_some}
 use Rattle.graph_model.specs.declared.graph.Node.{Node}
 use Rattle.graph_model.specs.declared.graph.Rel.{Rel}
 use Rattle.graph_model.specs.declared.graph.Prop.{Prop}
-use Rattle.graph_store.specs.Slots.{slot_at}
+use Rattle.graph_store.specs.Slots.{slot_at, slot_count}
 use Rattle.graph_model.specs.Change.{set_prop, set_if_there, last_value, is_listed}
 
 -- what becomes of a slot: an element of a listed id is edited
@@ -30,3 +30,7 @@ ends_live nodes rel = is_some (slot_at nodes rel.source) && is_some (slot_at nod
 -- whether an element isn't listed by its id
 abbrev pub is_unlisted : {A : Type 0} → (A → ℕ) → List ℕ → A → Bool
 is_unlisted id_of ids element = not (is_listed ids (id_of element))
+
+-- however much each element weighs: what is left and what is gone weigh what there was
+abbrev pub WeighsSame : {A : Type 0} → List (Option A) → List (Option A) → List A → Type 0
+WeighsSame {A} slots left gone = (weight : A → ℕ) → sum_by (slot_count weight) left + sum_by weight gone ≡ sum_by (slot_count weight) slots

@@ -6,15 +6,12 @@
 --   IsChained links latest         from each node its relationships are reached, from the last one to the first
 --   BeginsByLinks rels links       each relationship that lives began where its link says
 --   IsLinkedUpTo                   both of these, for so many relationships and so many nodes
---   IsStored                       what a store keeps
 use Rattle.std.specs.Prelude.{◌≡◌, ℕ, ◌<◌, ◌==◌, Bool, false, if◌then◌else◌, List, length, Option, Some, None, slice_index_or}
 use Rattle.std.proofs.Common.{suc, zero}
-use Rattle.graph_model.specs.declared.graph.Node.{Node}
 use Rattle.graph_model.specs.declared.graph.Rel.{Rel}
 use Rattle.graph_store.specs.declared.link.Link.{Link}
 use Rattle.graph_store.specs.declared.link.Latest.{Latest}
 use Rattle.graph_store.specs.Slots.{slot_at}
-use Rattle.graph_store.specs.Stored.{IsSound}
 
 -- the node at which a relationship began, where it ever lived
 abbrev pub source_at : List Link → ℕ → Option ℕ
@@ -53,8 +50,3 @@ pub record IsLinkedUpTo (rels : List (Option Rel)) (links : List Link) (latest :
   pub begun : BeginsByLinks rels links
   pub rows : length links ≡ row
   pub nodes_known : length latest ≡ nodes
-
--- what a store keeps: sound slots, and links of all relationships that were ever given
-pub record IsStored (nodes : List (Option Node)) (rels : List (Option Rel)) (values : ℕ) (rel_links : List Link) (node_links : List Latest) : Type 0 where
-  pub sound : IsSound nodes rels values
-  pub linked : IsLinkedUpTo rels rel_links node_links (length rels) (length nodes)

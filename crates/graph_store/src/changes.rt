@@ -66,11 +66,15 @@ impl Store {
         let values = self.values_with(added)?;
         let rels = self.rels.try_clone()?;
         let links = self.links.try_clone()?;
+        let node_names = self.node_names.with_key(alloc, key, added)?;
+        let rel_names = self.rel_names.try_clone()?;
         let store = Store {
             nodes,
             rels,
             links,
             values,
+            node_names,
+            rel_names,
         };
         Ok((store, answer))
     }
@@ -93,11 +97,15 @@ impl Store {
         let values = self.values_with(added)?;
         let nodes = self.nodes.try_clone()?;
         let links = self.links.try_clone()?;
+        let node_names = self.node_names.try_clone()?;
+        let rel_names = self.rel_names.with_key(alloc, key, added)?;
         let store = Store {
             nodes,
             rels,
             links,
             values,
+            node_names,
+            rel_names,
         };
         Ok((store, answer))
     }
@@ -115,12 +123,16 @@ impl Store {
         let (nodes, gone_nodes) = without(&self.nodes, alloc, EntityKind::Node, ids)?;
         let (rels, gone_rels) = without_loose(&self.rels, alloc, &nodes)?;
         let links = self.links.try_clone()?;
+        let node_names = self.node_names.without(alloc, &gone_nodes)?;
+        let rel_names = self.rel_names.without(alloc, &gone_rels)?;
         let values = self.values - gone_values(&gone_nodes) - gone_values(&gone_rels);
         let store = Store {
             nodes,
             rels,
             links,
             values,
+            node_names,
+            rel_names,
         };
         let answer = ChangeReply::Deleted {
             nodes: gone_nodes.len() as u32,
@@ -142,12 +154,16 @@ impl Store {
         let (rels, gone) = without(&self.rels, alloc, EntityKind::Rel, ids)?;
         let nodes = self.nodes.try_clone()?;
         let links = self.links.try_clone()?;
+        let node_names = self.node_names.try_clone()?;
+        let rel_names = self.rel_names.without(alloc, &gone)?;
         let values = self.values - gone_values(&gone);
         let store = Store {
             nodes,
             rels,
             links,
             values,
+            node_names,
+            rel_names,
         };
         let answer = ChangeReply::Deleted {
             nodes: 0,
@@ -198,22 +214,27 @@ impl Store {
         }
         let values = self.values_with_created(nodes, rels)?;
         let first = self.nodes.len() as u32;
+        let first_rel = self.rels.len() as u32;
         let count = nodes.len() as u32;
         let answer = ChangeReply::Created {
             first_node: first,
             nodes: count,
-            first_rel: self.rels.len() as u32,
+            first_rel,
             rels: rels.len() as u32,
         };
         let nodes = with_nodes(&self.nodes, alloc, nodes)?;
         let rels = with_rels(&self.rels, alloc, first, count, rels)?;
         let node_ids = nodes.len();
         let links = self.links.extended(alloc, node_ids, &rels)?;
+        let node_names = self.node_names.with_rows(alloc, &nodes, first as usize)?;
+        let rel_names = self.rel_names.with_rows(alloc, &rels, first_rel as usize)?;
         let store = Store {
             nodes,
             rels,
             links,
             values,
+            node_names,
+            rel_names,
         };
         Ok((store, answer))
     }

@@ -6,7 +6,7 @@ ghost use Rattle.graph_model.specs.declared.graph.Rel.{Rel};
 ghost use Rattle.graph_model.specs.Refusals.{UnlessMem};
 ghost use Rattle.graph_store.specs.Missing.{is_dead};
 ghost use Rattle.graph_store.specs.Slots.{IsNumbered, slot_at, slot_count, kept};
-ghost use Rattle.graph_store.specs.Edits.{ends_live, is_unlisted};
+ghost use Rattle.graph_store.specs.Edits.{ends_live, is_unlisted, WeighsSame};
 
 use crate::checks::missing_id;
 use crate::element::Element;
@@ -104,8 +104,7 @@ pub(crate) fn without<E: Element>(
 ) -> Result<(Table<Slot<E>>, List<Shared<E>>), Refusal>
     requires { IsNumbered E.id_of 0 slots.now }
     ensures removed { IfOk result (λ made. made.0 ≡ map (kept (is_unlisted E.id_of ids.now)) slots.now) }
-    ensures counted { IfOk result (λ made. (weight : E → ℕ) → sum_by (slot_count weight) made.0 + sum_by weight made.1
-        ≡ sum_by (slot_count weight) slots.now) }
+    ensures counted { IfOk result (λ made. WeighsSame slots.now made.0 made.1) }
     ensures found { IfOk result (λ _. find (is_dead slots.now) ids.now ≡ None) }
     ensures refused { IfErr result (λ why. UnlessMem why
         (option_map (Refusal.NoSuchEntity kind) (find (is_dead slots.now) ids.now) ≡ Some why)) }
@@ -126,8 +125,7 @@ pub(crate) fn without_loose(
     nodes: &Table<Slot<Node>>,
 ) -> Result<(Table<Slot<Rel>>, List<Shared<Rel>>), Mem>
     ensures removed { IfOk result (λ made. made.0 ≡ map (kept (ends_live nodes.now)) rels.now) }
-    ensures counted { IfOk result (λ made. (weight : Rel → ℕ) → sum_by (slot_count weight) made.0 + sum_by weight made.1
-        ≡ sum_by (slot_count weight) rels.now) }
+    ensures counted { IfOk result (λ made. WeighsSame rels.now made.0 made.1) }
 {
     let mut draft = rels.try_clone()?;
     let mut gone = List::new(alloc);

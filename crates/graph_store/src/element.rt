@@ -1,8 +1,9 @@
 // What nodes and relationships have in common.
-ghost use Rattle.std.specs.Prelude.{◌≡◌, ℕ, List, IfOk, refl};
+ghost use Rattle.std.specs.Prelude.{◌≡◌, ℕ, List, [], ◌∷◌, IfOk, refl};
 ghost use Rattle.graph_model.specs.declared.graph.Prop.{Prop};
 
-use graph_model::{List, Mem, Node, Prop, Rel, TryClone};
+use graph_model::{List, Mem, Name, Node, Prop, Rel, TryClone};
+use std::slice;
 
 /// A node or a relationship: an id, values, and more that no change alters.
 pub(crate) trait Element: Sized + Drop {
@@ -15,8 +16,14 @@ pub(crate) trait Element: Sized + Drop {
     /// The same element with other values.
     ghost with_props_of: { Self → List Prop → Self };
 
+    /// The labels of a node; of a relationship its type alone.
+    ghost classes_of: { Self → List (List ℕ) };
+
     fn id(&self) -> u32
         ensures { result ≡ id_of self.now };
+
+    fn classes(&self) -> &[Name]
+        ensures { result.now ≡ classes_of self.now };
 
     fn props(&self) -> &List<Prop>
         ensures { result.now ≡ props_of self.now };
@@ -30,6 +37,8 @@ pub(crate) trait Element: Sized + Drop {
     ghost props_are: { (element : Self) (props : List Prop) → props_of (with_props_of element props) ≡ props };
 
     ghost own_props: { (element : Self) → with_props_of element (props_of element) ≡ element };
+
+    ghost classes_stay: { (element : Self) (props : List Prop) → classes_of (with_props_of element props) ≡ classes_of element };
 }
 
 impl Element for Node {
@@ -39,14 +48,22 @@ impl Element for Node {
 
     ghost with_props_of = { λ node props. record node { props = props } };
 
+    ghost classes_of = { λ node. node.labels };
+
     ghost id_stays = { λ node props. refl };
 
     ghost props_are = { λ node props. refl };
 
     ghost own_props = { λ node. refl };
 
+    ghost classes_stay = { λ node props. refl };
+
     fn id(&self) -> u32 {
         self.id
+    }
+
+    fn classes(&self) -> &[Name] {
+        self.labels.as_slice()
     }
 
     fn props(&self) -> &List<Prop> {
@@ -69,14 +86,22 @@ impl Element for Rel {
 
     ghost with_props_of = { λ rel props. record rel { props = props } };
 
+    ghost classes_of = { λ rel. rel.kind ∷ [] };
+
     ghost id_stays = { λ rel props. refl };
 
     ghost props_are = { λ rel props. refl };
 
     ghost own_props = { λ rel. refl };
 
+    ghost classes_stay = { λ rel props. refl };
+
     fn id(&self) -> u32 {
         self.id
+    }
+
+    fn classes(&self) -> &[Name] {
+        slice::from_ref(&self.kind)
     }
 
     fn props(&self) -> &List<Prop> {

@@ -1,5 +1,5 @@
 // Values set by pairs of an id and a value.
-ghost use Rattle.std.specs.Prelude.{◌≡◌, ℕ, ◌+◌, ◌≤◌, length, map, slice_set, sum_by, Some, None, IfOk, IfErr};
+ghost use Rattle.std.specs.Prelude.{◌≡◌, ℕ, ◌+◌, ◌*◌, ◌≤◌, List, length, map, slice_set, sum_by, Some, None, IfOk, IfErr};
 ghost use Rattle.std.specs.List.{find};
 ghost use Rattle.std.specs.Option.{option_map};
 ghost use Rattle.std.specs.Ordering.{nat_cmp};
@@ -9,6 +9,7 @@ ghost use Rattle.graph_model.specs.Refusals.{UnlessMem};
 ghost use Rattle.graph_store.specs.Missing.{is_dead};
 ghost use Rattle.graph_store.specs.Slots.{IsNumbered, slot_at, slot_count};
 ghost use Rattle.graph_store.specs.Edits.{set_by, with_value};
+ghost use Rattle.graph_store.specs.Counted.{key_weight};
 
 use crate::checks::missing_of_pairs;
 use crate::element::Element;
@@ -41,8 +42,8 @@ fn set_value<E: Element>(
 ) -> Result<u64, Mem>
     ensures set { IfOk result (λ _. slots.new
         ≡ slice_set slots.old id (option_map (with_value E.props_of E.with_props_of key.now value) (slot_at slots.old id))) }
-    ensures added { IfOk result (λ added. sum_by (slot_count (λ element. length (E.props_of element))) slots.new
-        ≡ sum_by (slot_count (λ element. length (E.props_of element))) slots.old + added) }
+    ensures added { IfOk result (λ added. (weight : List ℕ → ℕ) → sum_by (slot_count (λ element. key_weight weight (E.props_of element))) slots.new
+        ≡ sum_by (slot_count (λ element. key_weight weight (E.props_of element))) slots.old + added * weight key.now) }
     ensures few { IfOk result (λ added. added ≤ 1) }
 {
     let Some(element) = live_at(slots, id as usize) else {
@@ -66,8 +67,8 @@ fn set_values<E: Element>(
     requires { IsNumbered E.id_of 0 slots.old }
     ensures set { IfOk result (λ _. slots.new
         ≡ map (option_map (set_by E.id_of E.props_of E.with_props_of key.now pairs.now)) slots.old) }
-    ensures added { IfOk result (λ added. sum_by (slot_count (λ element. length (E.props_of element))) slots.new
-        ≡ sum_by (slot_count (λ element. length (E.props_of element))) slots.old + added) }
+    ensures added { IfOk result (λ added. (weight : List ℕ → ℕ) → sum_by (slot_count (λ element. key_weight weight (E.props_of element))) slots.new
+        ≡ sum_by (slot_count (λ element. key_weight weight (E.props_of element))) slots.old + added * weight key.now) }
 {
     let mut last = last_values(alloc, pairs)?;
     let mut added = 0;
@@ -93,8 +94,8 @@ pub(crate) fn with_values<E: Element>(
     requires { IsNumbered E.id_of 0 slots.now }
     ensures set { IfOk result (λ made. made.0
         ≡ map (option_map (set_by E.id_of E.props_of E.with_props_of key.now pairs.now)) slots.now) }
-    ensures added { IfOk result (λ made. sum_by (slot_count (λ element. length (E.props_of element))) made.0
-        ≡ sum_by (slot_count (λ element. length (E.props_of element))) slots.now + made.1) }
+    ensures added { IfOk result (λ made. (weight : List ℕ → ℕ) → sum_by (slot_count (λ element. key_weight weight (E.props_of element))) made.0
+        ≡ sum_by (slot_count (λ element. key_weight weight (E.props_of element))) slots.now + made.1 * weight key.now) }
     ensures found { IfOk result (λ _. find (is_dead slots.now) (map pair_id pairs.now) ≡ None) }
     ensures refused { IfErr result (λ why. UnlessMem why
         (option_map (Refusal.NoSuchEntity kind) (find (is_dead slots.now) (map pair_id pairs.now)) ≡ Some why)) }

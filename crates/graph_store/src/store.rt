@@ -5,6 +5,7 @@ ghost use Rattle.std.specs.Option.{option_copied};
 ghost use Rattle.graph_model.specs.Graph.{IsValidGraph, IsWithinLimits, is_node, is_rel};
 ghost use Rattle.graph_store.specs.Told.{node_ids, rel_ids_from};
 
+use crate::census::Census;
 use crate::link::Links;
 use crate::slot::Slot;
 use crate::slots::{live_at, live_ids, slots_of, value_count};
@@ -21,6 +22,8 @@ pub struct Store {
     pub(crate) rels: Table<Slot<Rel>>,
     pub(crate) links: Links,
     pub(crate) values: u64,
+    pub(crate) node_names: Census,
+    pub(crate) rel_names: Census,
 }
 
 impl Model for Store {
@@ -29,11 +32,11 @@ impl Model for Store {
     ghost Value = { PropertyGraph };
 
     ghost use Rattle.graph_store.specs.Stored.{graph_of};
-    ghost use Rattle.graph_store.specs.Links.{IsStored};
+    ghost use Rattle.graph_store.specs.Whole.{IsStored};
 
     ghost view = { λ store. graph_of store.nodes store.rels };
 
-    ghost invariant = { λ store. IsStored store.nodes store.rels store.values store.links.rels store.links.nodes };
+    ghost invariant = { λ store. IsStored store.nodes store.rels store.values store.links store.node_names store.rel_names };
 }
 
 impl Store {
@@ -50,11 +53,15 @@ impl Store {
         let nodes = slots_of(alloc, graph.nodes, graph.next_node)?;
         let rels = slots_of(alloc, graph.rels, graph.next_rel)?;
         let links = Links::new(alloc)?.extended(alloc, nodes.len(), &rels)?;
+        let node_names = Census::new(alloc)?.with_rows(alloc, &nodes, 0)?;
+        let rel_names = Census::new(alloc)?.with_rows(alloc, &rels, 0)?;
         Ok(Store {
             nodes,
             rels,
             links,
             values,
+            node_names,
+            rel_names,
         })
     }
 
@@ -141,6 +148,8 @@ impl TryClone for Store {
             rels: self.rels.try_clone()?,
             links: self.links.try_clone()?,
             values: self.values,
+            node_names: self.node_names.try_clone()?,
+            rel_names: self.rel_names.try_clone()?,
         })
     }
 }
@@ -173,7 +182,7 @@ impl Prepared {
 /// A graph as a store had it at one moment. Contracts see the graph, which is valid and within the limits.
 #[derive(Drop)]
 pub struct Snapshot {
-    store: Store,
+    pub(crate) store: Store,
 }
 
 impl Model for Snapshot {

@@ -1,21 +1,23 @@
-// Rows by number, which copies share. A change copies the leaves that it touches.
+// Rows by number in branches of leaves, which copies share. A change copies the list of branches, and of what it touches
+// each branch's list of leaves and each leaf, once.
 ghost use Rattle.std.specs.Prelude.{◌≡◌, [], ◌∷◌, ◌++◌, ◌<◌, length, slice_get, slice_set, IfOk, OnOk, OnErr};
 ghost use Rattle.std.specs.Option.{option_copied};
 ghost use Rattle.graph_store.specs.Joined.{joined, last_length, IsFilled};
 
-use crate::leaf::{Leaf, unshare};
+use crate::branch::Branch;
+use crate::leaf::unshare;
 use graph_model::{Mem, TryClone};
 use std::alloc::Global;
 use std::marker::Model;
 use std::sync::Arc;
 
-/// How many rows a leaf has room for.
-const LEAF_ROOM: usize = 1_024;
+/// How many rows a branch has room for: 1,024 leaves of 1,024 rows.
+const BRANCH_ROOM: usize = 1_048_576;
 
 /// Rows, numbered from 0. A copy shares them.
 #[derive(Drop)]
 pub(crate) struct Table<T> {
-    leaves: Arc<Vec<Leaf<T>>>,
+    branches: Arc<Vec<Branch<T>>>,
     len: usize,
 }
 
@@ -29,9 +31,9 @@ impl<T> Model for Table<T> {
 
     ghost coded = { coded_list T.code };
 
-    ghost view = { λ table. joined (arc_value table.leaves).items };
+    ghost view = { λ table. joined (arc_value table.branches).items };
 
-    ghost invariant = { λ table. IsKept 1024 (arc_value table.leaves).items table.len };
+    ghost invariant = { λ table. IsKept 1048576 (arc_value table.branches).items table.len };
 }
 
 impl<T> Table<T> {
@@ -46,59 +48,59 @@ impl<T> Table<T> {
     pub(crate) fn get(&self, row: usize) -> Option<&T>
         ensures { option_copied result ≡ slice_get self.now row }
     {
-        match self.leaves.get(row / LEAF_ROOM) {
-            Some(leaf) => leaf.get(row % LEAF_ROOM),
+        match self.branches.get(row / BRANCH_ROOM) {
+            Some(branch) => branch.get(row % BRANCH_ROOM),
             None => None,
         }
     }
 }
 
-/// How many rows the last leaf has, and the room of a leaf where there is none.
-fn last_len<T>(leaves: &[Leaf<T>]) -> usize
-    ensures { result ≡ last_length 1024 leaves.now }
+/// How many rows the last branch has, and the room of a branch where there is none.
+fn last_len<T>(branches: &[Branch<T>]) -> usize
+    ensures { result ≡ last_length 1048576 branches.now }
 {
-    let count = leaves.len();
+    let count = branches.len();
     if count == 0 {
-        return LEAF_ROOM;
+        return BRANCH_ROOM;
     }
-    leaves[count - 1].len()
+    branches[count - 1].len()
 }
 
 /// Puts an item in the place of a row.
 fn set_row<T: TryClone + Drop>(
-    leaves: &mut Vec<Leaf<T>>,
+    branches: &mut Vec<Branch<T>>,
     alloc: Global,
     row: usize,
     item: T,
 ) -> Result<(), Mem>
-    requires full { IsFilled 1024 leaves.old.items }
-    requires within { row < length (joined leaves.old.items) }
-    ensures set { OnOk result (joined leaves.new.items ≡ slice_set (joined leaves.old.items) row item) }
-    ensures filled { OnOk result (IsFilled 1024 leaves.new.items) }
-    ensures err { OnErr result (leaves.new.items ≡ leaves.old.items) }
+    requires full { IsFilled 1048576 branches.old.items }
+    requires within { row < length (joined branches.old.items) }
+    ensures set { OnOk result (joined branches.new.items ≡ slice_set (joined branches.old.items) row item) }
+    ensures filled { OnOk result (IsFilled 1048576 branches.new.items) }
+    ensures err { OnErr result (branches.new.items ≡ branches.old.items) }
 {
-    let leaf = &mut leaves[row / LEAF_ROOM];
-    leaf.set(alloc, row % LEAF_ROOM, item)
+    let branch = &mut branches[row / BRANCH_ROOM];
+    branch.set(alloc, row % BRANCH_ROOM, item)
 }
 
-/// Puts an item behind the last row: into the last leaf where it has room, and else into a new one.
+/// Puts an item behind the last row: into the last branch where it has room, and else into a new one.
 fn push_row<T: TryClone + Drop>(
-    leaves: &mut Vec<Leaf<T>>,
+    branches: &mut Vec<Branch<T>>,
     alloc: Global,
     item: T,
 ) -> Result<(), Mem>
-    requires { IsFilled 1024 leaves.old.items }
-    ensures pushed { OnOk result (joined leaves.new.items ≡ joined leaves.old.items ++ item ∷ []) }
-    ensures filled { OnOk result (IsFilled 1024 leaves.new.items) }
-    ensures err { OnErr result (leaves.new.items ≡ leaves.old.items) }
+    requires { IsFilled 1048576 branches.old.items }
+    ensures pushed { OnOk result (joined branches.new.items ≡ joined branches.old.items ++ item ∷ []) }
+    ensures filled { OnOk result (IsFilled 1048576 branches.new.items) }
+    ensures err { OnErr result (branches.new.items ≡ branches.old.items) }
 {
-    if last_len(leaves.as_slice()) < LEAF_ROOM {
-        let last = leaves.len() - 1;
-        let leaf = &mut leaves[last];
-        return leaf.push(alloc, item);
+    if last_len(branches.as_slice()) < BRANCH_ROOM {
+        let last = branches.len() - 1;
+        let branch = &mut branches[last];
+        return branch.push(alloc, item);
     }
-    let leaf = Leaf::of(alloc, item)?;
-    leaves.push(leaf)?;
+    let branch = Branch::of(alloc, item)?;
+    branches.push(branch)?;
     Ok(())
 }
 
@@ -108,7 +110,7 @@ impl<T: TryClone + Drop> Table<T> {
         ensures { IfOk result (λ table. table ≡ []) }
     {
         Ok(Table {
-            leaves: Arc::new(alloc, Vec::new(alloc))?,
+            branches: Arc::new(alloc, Vec::new(alloc))?,
             len: 0,
         })
     }
@@ -118,9 +120,9 @@ impl<T: TryClone + Drop> Table<T> {
         requires { row < length self.old }
         ensures { OnOk result (self.new ≡ slice_set self.old row item) }
     {
-        unshare(&mut self.leaves, alloc)?;
-        match Arc::get_mut(&mut self.leaves) {
-            Some(leaves) => set_row(leaves, alloc, row, item),
+        unshare(&mut self.branches, alloc)?;
+        match Arc::get_mut(&mut self.branches) {
+            Some(branches) => set_row(branches, alloc, row, item),
             None => Err(Mem),
         }
     }
@@ -130,9 +132,9 @@ impl<T: TryClone + Drop> Table<T> {
         ensures { OnOk result (self.new ≡ self.old ++ item ∷ []) }
     {
         let len = self.len.checked_add(1).ok_or(Mem)?;
-        unshare(&mut self.leaves, alloc)?;
-        match Arc::get_mut(&mut self.leaves) {
-            Some(leaves) => push_row(leaves, alloc, item)?,
+        unshare(&mut self.branches, alloc)?;
+        match Arc::get_mut(&mut self.branches) {
+            Some(branches) => push_row(branches, alloc, item)?,
             None => return Err(Mem),
         }
         self.len = len;
@@ -143,7 +145,7 @@ impl<T: TryClone + Drop> Table<T> {
 impl<T> TryClone for Table<T> {
     fn try_clone(&self) -> Result<Table<T>, Mem> {
         Ok(Table {
-            leaves: Arc::try_clone(&self.leaves)?,
+            branches: Arc::try_clone(&self.branches)?,
             len: self.len,
         })
     }

@@ -47,3 +47,6 @@ returns-clause-set g c =
     let all : take c.loop-id.id-index pairs ≡ pairs = take_all c.loop-id.id-index pairs (omega arith) in
     IsSetSoFar-all g.E.Element.id_of g.E.Element.props_of g.E.Element.with_props_of c.args.key.now pairs (get nat_cmp c.loop-id.last) c.args.slots.now c.loop-id.slots c.loop-id.added
     g.met.E.Element.own_props (rw all at c.loop-id.invariant.0)
+
+pub returns-clause-added : goal.returns-clause-added
+returns-clause-added g c = c.loop-id.invariant.0.counted

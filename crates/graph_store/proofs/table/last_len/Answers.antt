@@ -4,4 +4,4 @@ use Rattle.graph_store.proofs.table.last_len.Goals as goal
 
 pub returns : goal.returns
 returns g c =
-    c.len.ensures ∙ sym (last_length-at 1024 c.args.leaves.now (length c.args.leaves.now - 1) c.index-leaves-count.result (omega (arith, c.if-count-eq0.false)) c.index-leaves-count.is)
+    c.len.ensures ∙ sym (last_length-at 1048576 c.args.branches.now (length c.args.branches.now - 1) c.index-branches-count.result (omega (arith, c.if-count-eq0.false)) c.index-branches-count.is)

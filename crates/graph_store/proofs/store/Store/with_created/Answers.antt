@@ -1,3 +1,5 @@
+use Rattle.graph_store.specs.Counted.{node_classes, rel_classes, node_props, rel_props}
+use Rattle.graph_store.proofs.CensusLemmas.{counted-front}
 use Rattle.graph_store.proofs.LinkLemmas.{source_below}
 use Rattle.std.proofs.Common.{◌≡◌, Some, None, sym, ◌∙◌, arith}
 use Rattle.std.specs.List.{find, flat_map}
@@ -43,6 +45,8 @@ invariant_of-store c =
       sound = (created_made c.self.inside.nodes c.self.inside.rels c.self.inside.values c.args.self.now c.args.nodes.now c.args.rels.now c.in_ok-nodes.nodes c.in_ok-rels.rels c.in_ok-values.values
           c.self.invariant.sound c.self.view_is c.requires found c.in_ok-nodes.ensures (rw c.len-first.ensures at c.in_ok-rels.ensures) c.in_ok-values.ensures.ok).0;
       linked = rw c.len-node_ids.ensures at c.in_ok-links.ensures;
+      nodes_counted = c.in_ok-node_names.ensures;
+      rels_counted = c.in_ok-rel_names.ensures;
     }
 
 pub returns-clause-ok : goal.returns-clause-ok
@@ -50,3 +54,13 @@ returns-clause-ok c =
     let found : find (is_dead c.self.inside.nodes) (flat_map named_ends c.args.rels.now) ≡ None = rw c.as_slice.ensures.value at (sym c.missing_end.ensures ∙ c.in_default.is) in
     (created_made c.self.inside.nodes c.self.inside.rels c.self.inside.values c.args.self.now c.args.nodes.now c.args.rels.now c.in_ok-nodes.nodes c.in_ok-rels.rels c.in_ok-values.values
     c.self.invariant.sound c.self.view_is c.requires found c.in_ok-nodes.ensures (rw c.len-first.ensures at c.in_ok-rels.ensures) c.in_ok-values.ensures.ok).1
+
+pub with_rows-requires-clause-counted : goal.with_rows-requires-clause-counted
+with_rows-requires-clause-counted c =
+    counted-front node_classes node_props c.self.inside.nodes _ c.in_ok-nodes.nodes c.len-first.result c.self.inside.node_names.classes c.self.inside.node_names.keys
+    c.in_ok-nodes.ensures c.len-first.ensures c.self.invariant.nodes_counted
+
+pub with_rows-requires-2-clause-counted : goal.with_rows-requires-2-clause-counted
+with_rows-requires-2-clause-counted c =
+    counted-front rel_classes rel_props c.self.inside.rels _ c.in_ok-rels.rels c.len-first_rel.result c.self.inside.rel_names.classes c.self.inside.rel_names.keys
+    c.in_ok-rels.ensures c.len-first_rel.ensures c.self.invariant.rels_counted

@@ -1,3 +1,5 @@
+use Rattle.graph_store.specs.Counted.{node_classes, rel_classes, node_props, rel_props}
+use Rattle.graph_store.proofs.CensusLemmas.{counted-gone}
 use Rattle.graph_store.specs.Edits.{ends_live}
 use Rattle.graph_store.proofs.LinkLemmas.{linked-after, mapped_length, kept_keeps_sources}
 use Rattle.std.proofs.Common.{arith}
@@ -52,6 +54,10 @@ invariant_of-store c =
           (record { sound = c.self.invariant.sound; is = c.self.view_is; found = nodes.found; nodes_gone = nodes.removed; rels_gone = rels.removed; node_count = rw c.gone_values.ensures (nodes.counted node_value_count); rel_count = rw c.gone_values-2.ensures (rels.counted rel_value_count) })).0;
       linked = linked-after c.self.inside.nodes c.in_ok-nodes.nodes c.self.inside.rels c.in_ok-rels.rels c.self.inside.links c.in_ok-links.links c.self.invariant.linked c.in_ok-links.ensures
           (mapped_length c.self.inside.nodes c.in_ok-nodes.nodes _ nodes.removed) (mapped_length c.self.inside.rels c.in_ok-rels.rels _ rels.removed) (kept_keeps_sources c.self.inside.rels c.in_ok-rels.rels (ends_live c.in_ok-nodes.nodes) rels.removed);
+      nodes_counted = counted-gone node_classes node_props c.self.inside.nodes c.in_ok-nodes.nodes c.in_ok-nodes.gone_nodes c.self.inside.node_names.classes c.self.inside.node_names.keys c.in_ok-node_names.node_names.classes c.in_ok-node_names.node_names.keys
+          c.self.invariant.nodes_counted nodes.counted c.in_ok-node_names.ensures.classes c.in_ok-node_names.ensures.keys;
+      rels_counted = counted-gone rel_classes rel_props c.self.inside.rels c.in_ok-rels.rels c.in_ok-rels.gone_rels c.self.inside.rel_names.classes c.self.inside.rel_names.keys c.in_ok-rel_names.rel_names.classes c.in_ok-rel_names.rel_names.keys
+          c.self.invariant.rels_counted rels.counted c.in_ok-rel_names.ensures.classes c.in_ok-rel_names.ensures.keys;
     }
 
 pub returns-clause-ok : goal.returns-clause-ok

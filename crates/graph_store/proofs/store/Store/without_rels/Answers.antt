@@ -1,3 +1,6 @@
+use Rattle.graph_store.specs.declared.census.Census.{Census}
+use Rattle.graph_store.specs.Counted.{node_classes, rel_classes, node_props, rel_props}
+use Rattle.graph_store.proofs.CensusLemmas.{counted-gone, counted-same}
 use Rattle.std.proofs.Common.{ap, length}
 use Rattle.graph_store.specs.Stored.{rel_id}
 use Rattle.graph_store.specs.Edits.{is_unlisted}
@@ -38,6 +41,10 @@ invariant_of-store c =
           (record { sound = c.self.invariant.sound; is = c.self.view_is; found = gone.found; gone = gone.removed; counted = rw c.gone_values.ensures (gone.counted rel_value_count) }) c.in_ok-nodes.ensures).0;
       linked = linked-after c.self.inside.nodes c.in_ok-nodes.nodes c.self.inside.rels c.in_ok-rels.rels c.self.inside.links c.in_ok-links.links c.self.invariant.linked c.in_ok-links.ensures
           (ap length c.in_ok-nodes.ensures) (mapped_length c.self.inside.rels c.in_ok-rels.rels _ gone.removed) (kept_keeps_sources c.self.inside.rels c.in_ok-rels.rels (is_unlisted rel_id c.args.ids.now) gone.removed);
+      nodes_counted = counted-same node_classes node_props c.self.inside.nodes c.in_ok-nodes.nodes c.self.inside.node_names.classes c.self.inside.node_names.keys c.in_ok-node_names.node_names.classes c.in_ok-node_names.node_names.keys
+          c.in_ok-nodes.ensures (ap (λ (names : Census). names.classes) c.in_ok-node_names.ensures) (ap (λ (names : Census). names.keys) c.in_ok-node_names.ensures) c.self.invariant.nodes_counted;
+      rels_counted = counted-gone rel_classes rel_props c.self.inside.rels c.in_ok-rels.rels c.in_ok-rels.gone c.self.inside.rel_names.classes c.self.inside.rel_names.keys c.in_ok-rel_names.rel_names.classes c.in_ok-rel_names.rel_names.keys
+          c.self.invariant.rels_counted gone.counted c.in_ok-rel_names.ensures.classes c.in_ok-rel_names.ensures.keys;
     }
 
 pub returns-clause-ok : goal.returns-clause-ok
