@@ -8,7 +8,7 @@ use Rattle.csr_columns.specs.Order.{has_number, items_of, grouped, source_by, ta
 use Rattle.csr_columns.proofs.Grouping.{map-flat_map, flat_map-agree, flat_map-range_agree}
 
 -- a filter of pieces
-filter-flat_map : {X Y : Type 0} (p : Y → Bool) (f : X → List Y) (xs : List X) → filter p (flat_map f xs) ≡ flat_map (λ x. filter p (f x)) xs
+pub filter-flat_map : {X Y : Type 0} (p : Y → Bool) (f : X → List Y) (xs : List X) → filter p (flat_map f xs) ≡ flat_map (λ x. filter p (f x)) xs
 filter-flat_map p f [] = refl
 filter-flat_map p f (x ∷ xs) = filter-append p (f x) (flat_map f xs) ∙ ap (λ ys. filter p (f x) ++ ys) (filter-flat_map p f xs)
 
