@@ -18,6 +18,8 @@ mod ordering;
 mod parts;
 mod projection;
 mod taking;
+#[cfg(test)]
+mod tests;
 mod turning;
 mod view;
 mod viewing;
