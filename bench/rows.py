@@ -1,5 +1,5 @@
 #!/usr/bin/env python3
-"""Times rows of arcs, built, reversed and viewed by `gds_bench rows`, beside the same work in plain Rust.
+"""Times rows of arcs, built, reversed, viewed and merged by `gds_bench rows`, beside the same work in plain Rust.
 
 usage: rows.py [--nodes N] [--arcs M] [--runs K]
 
