@@ -1,9 +1,8 @@
 -- What is chosen of lists, item after item.
-use Rattle.std.proofs.Common.{◌≡◌, ◌≢◌, inl, inr, ⊎_elim, ℕ, ◌+◌, ◌<◌, Bool, true, false, not, ◌&&◌, ◌||◌, cond, List, [], ◌∷◌, ◌++◌, length, map, filter, take, drop, get_or, IfSome, refl, sym, ap, ◌∙◌, subst, zero, suc, add-one, arith}
-use Rattle.std.specs.List.{All, list_any, list_all, zip, range_with_len}
+use Rattle.std.proofs.Common.{◌≡◌, ℕ, ◌+◌, ◌<◌, Bool, true, false, not, ◌&&◌, ◌||◌, cond, List, [], ◌∷◌, ◌++◌, length, map, filter, take, drop, get_or, IfSome, refl, sym, ap, ◌∙◌, zero, suc, add-one, arith}
+use Rattle.std.specs.List.{All, list_any, list_all, zip}
 use Rattle.std.specs.Str.{bytes_eq}
 use Rattle.std.proofs.Math.Seq.{drop-cons}
-use Rattle.std.proofs.lemmas.Bool.{cases_Bool, cond-true, cond-false}
 use Rattle.graph_model.specs.Projection.{is_among}
 use Rattle.csr_columns.specs.Rows.{names_of}
 use Rattle.csr_columns.specs.Parts.{kind_of}

@@ -1,6 +1,6 @@
 -- A view that shares the ids of a projection and the rows of its one chosen type is the plain view.
-use Rattle.std.proofs.Common.{◌≡◌, ℕ, ℤ, ◌+◌, ◌<◌, ◌≤◌, Bool, true, false, cond, List, [], ◌∷◌, ◌++◌, length, map, Option, Some, None, IfSome, Result, Ok, Err, IfOk, OnOk, MatchOption, refl, sym, ap, ap₂, ◌∙◌, subst, zero, suc, arith}
-use Rattle.std.specs.List.{All, AllByRecursion, cons_option, filter_map, flat_map, list_all, range_with_len, zip}
+use Rattle.std.proofs.Common.{◌≡◌, ℕ, ℤ, ◌+◌, ◌<◌, ◌≤◌, Bool, true, false, cond, List, [], ◌∷◌, length, map, Option, Some, None, IfSome, Result, Ok, Err, IfOk, OnOk, MatchOption, refl, sym, ap, ap₂, ◌∙◌, subst, zero, suc, arith}
+use Rattle.std.specs.List.{All, AllByRecursion, cons_option, filter_map, flat_map, list_all, range_with_len}
 use Rattle.std.proofs.lemmas.List.{append-nil}
 use Rattle.std.proofs.lemmas.List.Sums.{sum_by-cons}
 use Rattle.std.proofs.lemmas.List.FromFn.{length-map-range_with_len}
@@ -9,9 +9,9 @@ use Rattle.graph_model.specs.Projection.{most_arcs, under}
 use Rattle.graph_model.specs.declared.graph.Choice.{Choice}
 use Rattle.graph_model.specs.declared.graph.Choice.TheVariants.{All as Each}
 use Rattle.graph_model.specs.View.{plain_view}
-use Rattle.csr_columns.specs.Rows.{HasTargetsBelow, IsBeside, LiesBelow, arcs_of, column_at, listed}
+use Rattle.csr_columns.specs.Rows.{IsBeside, LiesBelow, arcs_of, column_at, listed}
 use Rattle.csr_columns.specs.Order.{ordered, itself, arc_beside}
-use Rattle.csr_columns.specs.Parts.{FitTogether, HasNodes, arcs_in, arcs_in_rows, arcs_in_type}
+use Rattle.csr_columns.specs.Parts.{FitTogether, HasNodes, arcs_in, arcs_in_type}
 use Rattle.csr_columns.specs.Plain.{plain}
 use Rattle.csr_columns.specs.Choosing.{IsWhole, chosen, chooses_kind, first_directed_kind, has_column, is_kept, kept_flags}
 use Rattle.csr_columns.specs.Keeping.{HasArcsBelow, HasValuesBeside, arcs_beside, beside_arc, both_ends, kept_of, moved, moved_with, new_place, renumbered, rows_under, taken_arcs, taken_of}

@@ -1,32 +1,32 @@
 -- The view that is made of kept nodes and of arcs that are taken over is the plain view.
-use Rattle.std.proofs.Common.{◌≡◌, ℕ, ℤ, ◌+◌, ◌<◌, ◌≤◌, Bool, true, false, cond, List, [], ◌∷◌, ◌++◌, length, map, filter, get_or, Option, Some, None, IfSome, refl, sym, ap, ◌∙◌, subst, zero, suc, arith}
-use Rattle.std.specs.Option.{is_some, option_map}
+use Rattle.std.proofs.Common.{◌≡◌, ℕ, ℤ, ◌+◌, ◌<◌, ◌≤◌, Bool, true, false, cond, List, [], ◌∷◌, ◌++◌, length, map, filter, get_or, Option, Some, None, refl, sym, ap, ◌∙◌, zero, suc, arith}
+use Rattle.std.specs.Option.{is_some}
 use Rattle.std.specs.Str.{bytes_eq}
 use Rattle.std.specs.List.{All, filter_map, flat_map, range_with_len, enumerate_from, list_all, zip}
 use Rattle.std.specs.List.Sorted.{IsStrictlyIncreasing}
-use Rattle.std.proofs.lemmas.List.{length-map, map-append}
+use Rattle.std.proofs.lemmas.List.{map-append}
 use Rattle.std.proofs.lemmas.Simd.{map-map}
 use Rattle.std.proofs.lemmas.List.FromFn.{fill_by_all, length-map-range_with_len}
 use Rattle.std.proofs.lemmas.List.Elements.{All-head, All-tail, All-nil, All-cons, All-append, All-map, All-filter, filter_map-append}
-use Rattle.graph_model.specs.Projection.{ProjectedArc, ProjectedNode, ProjectedType, missing_value, under}
+use Rattle.graph_model.specs.Projection.{missing_value, under}
 use Rattle.graph_model.specs.declared.graph.Choice.{Choice}
 use Rattle.graph_model.specs.declared.graph.Choice.TheVariants.{All as Each, Of}
-use Rattle.graph_model.specs.View.{ViewArc, PlainView, arcs_within, chooses_node, chosen_ids, chosen_types, first_directed, node_id, plain_view, view_refusal, weighed_arc, weighed_arcs, weight_of}
+use Rattle.graph_model.specs.View.{ViewArc, arcs_within, chooses_node, chosen_ids, chosen_types, first_directed, node_id, plain_view, weighed_arc, weighed_arcs}
 use Rattle.csr_columns.specs.Rows.{ArcRows, HasTargetsBelow, IsBeside, LiesBelow, arc_from, arcs_at, arcs_of, column_at, listed, listed_column, names_of, row_at}
 use Rattle.csr_columns.specs.Order.{ordered, itself, arc_beside}
 use Rattle.csr_columns.specs.Parts.{HasNodes}
-use Rattle.csr_columns.specs.Plain.{plain, plain_arc, plain_arcs, plain_node, plain_type, value_of, values_at}
+use Rattle.csr_columns.specs.Plain.{plain, plain_arc, plain_node, plain_type, values_at}
 use Rattle.csr_columns.specs.Choosing.{chosen, chooses_kind, first_directed_kind, has_column, is_kept, kept_flags}
 use Rattle.csr_columns.specs.Keeping.{HasArcsBelow, HasValuesBeside, arcs_beside, kept_of, moved, moved_with, new_place, renumbered, rows_under, taken_arcs, taken_of}
-use Rattle.csr_columns.specs.ViewParts.{bare_arc, heavy_arc, plain_view_arcs, plain_view_of, view_shown}
+use Rattle.csr_columns.specs.ViewParts.{bare_arc, heavy_arc, plain_view_of, view_shown}
 use Rattle.csr_columns.specs.declared.parts.Parts.{Parts}
 use Rattle.csr_columns.specs.declared.parts.TypeColumns.{TypeColumns}
-use Rattle.csr_columns.proofs.Grouping.{filter-map, flat_map-agree, map-flat_map}
+use Rattle.csr_columns.proofs.Grouping.{filter-map}
 use Rattle.csr_columns.proofs.Increasing.{Ascends-from_increasing}
 use Rattle.csr_columns.proofs.Refusing.{chosen_types-plain, first_directed-plain}
 use Rattle.csr_columns.proofs.Renumbering.{HasPlace, HasPlace-kept, taken-bare, taken-heavy}
 use Rattle.csr_columns.proofs.Taken.{beside-has, under-among, both-first, both-second, length-beside}
-use Rattle.csr_columns.proofs.ViewArcs.{IsTaken, arcs_within-taken, flat_map-map}
+use Rattle.csr_columns.proofs.ViewArcs.{IsTaken, arcs_within-taken}
 
 -- the kept ones of what a function makes of a range
 kept_of-range : {X : Type 0} (keeps : ℕ → Bool) (f : ℕ → X) (a n : ℕ) → kept_of (map keeps (range_with_len a n)) (map f (range_with_len a n)) ≡ map f (filter keeps (range_with_len a n))

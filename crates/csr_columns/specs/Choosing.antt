@@ -4,15 +4,14 @@
 --   is_kept choice labels v         whether the node at a place has a chosen label
 --   kept_flags choice labels n      the same of each node
 --   IsWhole parts labels types type each node is chosen, and of the types this one alone, whose rows ascend
-use Rattle.std.specs.Prelude.{◌≡◌, ℕ, Bool, true, List, [], ◌∷◌, map, filter, length, All, if◌then◌else◌, Option, None, Some, not}
-use Rattle.std.specs.List.{list_any, list_all, range_with_len}
+use Rattle.std.specs.Prelude.{◌≡◌, ℕ, Bool, true, List, [], ◌∷◌, map, filter, length, All, if◌then◌else◌, Option, None, Some}
+use Rattle.std.specs.List.{list_any, range_with_len}
 use Rattle.graph_model.specs.declared.graph.Choice.{Choice}
 use Rattle.graph_model.specs.declared.graph.Choice.TheVariants.{All as Each, Of}
 use Rattle.graph_model.specs.Projection.{is_among}
 use Rattle.graph_model.specs.View.{is_undirected}
 use Rattle.csr_columns.specs.Rows.{HasTargetsBelow, names_of}
 use Rattle.csr_columns.specs.Order.{HasAscendingRows}
-use Rattle.csr_columns.specs.Parts.{kind_of}
 use Rattle.csr_columns.specs.Plain.{labels_at}
 use Rattle.csr_columns.specs.declared.parts.Parts.{Parts}
 use Rattle.csr_columns.specs.declared.parts.TypeColumns.{TypeColumns}

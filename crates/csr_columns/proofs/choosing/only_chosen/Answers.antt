@@ -1,4 +1,4 @@
-use Rattle.std.proofs.Common.{◌≡◌, List, [], ◌∷◌, Option, IfSome, length, sym, subst, ◌∙◌, arith}
+use Rattle.std.proofs.Common.{◌≡◌, [], ◌∷◌, Option, IfSome, length, sym, subst, arith}
 use Rattle.std.proofs.lemmas.List.Sums.{length-filter}
 use Rattle.csr_columns.specs.Choosing.{chooses_kind, chosen}
 use Rattle.csr_columns.specs.declared.parts.TypeColumns.{TypeColumns}

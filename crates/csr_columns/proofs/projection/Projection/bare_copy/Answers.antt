@@ -1,4 +1,3 @@
-use Rattle.std.proofs.Common.{◌≡◌, length, ap, sym, ◌∙◌}
 use Rattle.csr_columns.proofs.Viewed.{viewed-bare}
 use Rattle.csr_columns.proofs.projection.Projection.bare_copy.Goals as goal
 

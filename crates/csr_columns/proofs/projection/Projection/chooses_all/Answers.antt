@@ -1,4 +1,4 @@
-use Rattle.std.proofs.Common.{◌≡◌, true, length}
+use Rattle.std.proofs.Common.{length}
 use Rattle.csr_columns.proofs.Sharing.{kept-each}
 use Rattle.csr_columns.proofs.projection.Projection.chooses_all.Goals as goal
 

@@ -1,4 +1,4 @@
-use Rattle.std.proofs.Common.{◌≡◌, true, rules}
+use Rattle.std.proofs.Common.{rules}
 use Rattle.csr_columns.proofs.projection.Projection.whole_type.Goals as goal
 
 pub returns : goal.returns
