@@ -1,15 +1,14 @@
 -- What is chosen of lists, item after item.
-use Rattle.std.proofs.Common.{◌≡◌, ◌≢◌, inl, inr, ⊎_elim, ℕ, ◌+◌, ◌<◌, Bool, true, false, not, ◌&&◌, ◌||◌, cond, List, [], ◌∷◌, ◌++◌, length, map, filter, take, drop, get_or, refl, sym, ap, ◌∙◌, subst, zero, suc, add-one, arith}
-use Rattle.std.specs.List.{All, list_any, list_all, zip, range_with_len}
+use Rattle.std.proofs.Common.{◌≡◌, ℕ, ◌+◌, ◌<◌, Bool, true, false, not, ◌&&◌, ◌||◌, cond, List, [], ◌∷◌, ◌++◌, length, map, filter, take, drop, get_or, IfSome, refl, sym, ap, ◌∙◌, zero, suc, add-one, arith}
+use Rattle.std.specs.List.{All, list_any, list_all, zip}
 use Rattle.std.specs.Str.{bytes_eq}
 use Rattle.std.proofs.Math.Seq.{drop-cons}
-use Rattle.std.proofs.lemmas.Bool.{cases_Bool, cond-true, cond-false}
 use Rattle.graph_model.specs.Projection.{is_among}
 use Rattle.csr_columns.specs.Rows.{names_of}
 use Rattle.csr_columns.specs.Parts.{kind_of}
 use Rattle.csr_columns.specs.Plain.{labels_at, is_flagged}
 use Rattle.csr_columns.specs.Keeping.{kept_of}
-use Rattle.csr_columns.specs.Choosing.{is_kept, kept_flags}
+use Rattle.csr_columns.specs.Choosing.{first_of, is_kept, kept_flags}
 use Rattle.graph_model.specs.declared.graph.Choice.TheVariants.{All as Each, Of}
 use Rattle.std.proofs.lemmas.List.FromFn.{fill_by_all}
 use Rattle.csr_columns.specs.declared.parts.TypeColumns.{TypeColumns}
@@ -132,3 +131,9 @@ take-front zero [] ys long = refl
 take-front zero (x ∷ xs) ys long = absurd (omega arith)
 take-front (suc n) [] ys long = absurd (omega arith)
 take-front {X} (suc n) (x ∷ xs) ys long = ap (λ (zs : List X). x ∷ zs) (take-front n xs ys (omega arith))
+
+-- the one of types that are one
+pub only-first : (types : List TypeColumns) → length types ≡ 1 → IfSome (first_of types) (λ type. types ≡ type ∷ [])
+only-first [] one = absurd (omega arith)
+only-first (type ∷ []) one = refl
+only-first (type ∷ other ∷ types) one = absurd (omega arith)

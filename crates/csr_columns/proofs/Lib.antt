@@ -16,3 +16,5 @@ pub mod ViewArcs
 pub mod Taken
 pub mod Viewed
 pub mod Renumbering
+pub mod Unmoved
+pub mod Sharing

@@ -1,13 +1,13 @@
 -- The rows of arcs in order, one after another, are the arcs.
-use Rattle.std.proofs.Common.{◌≡◌, ℕ, ℤ, ◌+◌, ◌-◌, ◌<◌, ◌≤◌, Bool, true, false, cond, eqb, List, [], ◌∷◌, ◌++◌, length, map, filter, get_or, take, drop, slice_index, refl, sym, ap, ◌∙◌, subst, ⊎_elim, arith}
+use Rattle.std.proofs.Common.{◌≡◌, ℕ, ℤ, ◌+◌, ◌<◌, true, false, List, [], ◌∷◌, length, map, filter, refl, sym, ap, ◌∙◌, subst, ⊎_elim, arith}
 use Rattle.std.specs.List.{All, flat_map, range_with_len}
 use Rattle.std.specs.List.Sorted.{IsSorted}
 use Rattle.std.proofs.lemmas.List.FromFn.{length-map-range_with_len, get_or-map-range_with_len}
 use Rattle.std.proofs.lemmas.Bool.{cases_Bool, cond-true, cond-false, eqb-true}
-use Rattle.graph_model.specs.Arcs.{leaves, targets_of, degree_of}
+use Rattle.graph_model.specs.Arcs.{leaves, targets_of}
 use Rattle.csr_columns.specs.Rows.{LiesBelow, arc_cmp, rows_of, row_at, values_of, arc_from, arcs_at, arcs_of, listed}
-use Rattle.csr_columns.specs.Offsets.{arcs_before, cut_row, cut_rows, CountsArcs, CutsRows}
-use Rattle.csr_columns.proofs.OffsetRows.{map-range_agree, cut_row-counted, cut_rows-counted, CutsRows-counted, listed-cut_rows, flat_map-listed}
+use Rattle.csr_columns.specs.Offsets.{arcs_before, cut_row, CountsArcs, CutsRows}
+use Rattle.csr_columns.proofs.OffsetRows.{cut_row-counted, cut_rows-counted, CutsRows-counted, listed-cut_rows, flat_map-listed}
 use Rattle.csr_columns.proofs.Ascending.{ascending_arcs, ascending_values}
 
 -- the offsets of the rows of arcs

@@ -1,7 +1,7 @@
 -- What is read from the columns of a projection.
 use Rattle.std.proofs.lemmas.List.{length-map}
 use Rattle.csr_columns.specs.declared.parts.Parts.{Parts}
-use Rattle.std.proofs.Common.{◌≡◌, ℕ, ℤ, Bool, ◌<◌, List, [], ◌∷◌, length, map, Option, Some, None, refl, sym, ap, ◌∙◌, subst, ⊎_elim, true, false}
+use Rattle.std.proofs.Common.{◌≡◌, ℕ, ℤ, Bool, List, [], ◌∷◌, length, map, Some, refl, sym, ap, ◌∙◌, subst, ⊎_elim, true, false}
 use Rattle.std.specs.List.{All, zip}
 use Rattle.std.specs.Str.{bytes_eq}
 use Rattle.std.proofs.lemmas.Bool.{cases_Bool, cond-true, cond-false}

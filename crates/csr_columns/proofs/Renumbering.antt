@@ -1,11 +1,8 @@
 -- Kept nodes have the ids at their new places.
-use Rattle.std.proofs.Common.{◌≡◌, inl, inr, ℕ, ℤ, ◌+◌, ◌-◌, ◌<◌, ◌≤◌, Bool, true, false, ◌&&◌, cond, eqb, List, [], ◌∷◌, length, map, get_or, Option, Some, None, refl, sym, ap, ap₂, ◌∙◌, subst, zero, suc, arith}
-use Rattle.std.specs.List.{All, AllByRecursion}
-use Rattle.std.specs.List.Sorted.{IsStrictlyIncreasing}
+use Rattle.std.proofs.Common.{◌≡◌, ℕ, ℤ, ◌+◌, ◌<◌, ◌≤◌, Bool, true, false, ◌&&◌, eqb, List, [], ◌∷◌, length, get_or, Option, Some, None, refl, sym, ap, ◌∙◌, zero, suc, arith}
+use Rattle.std.specs.List.{AllByRecursion}
 use Rattle.std.proofs.lemmas.Bool.{ne_eqb, eq-eqb, eqb-true}
-use Rattle.graph_model.specs.Lists.{Pairwise}
-use Rattle.graph_model.specs.View.{ViewArc, joins}
-use Rattle.csr_columns.specs.Keeping.{HasPlacesBelow, kept_of, renumbered, new_place, both_ends, moved, beside_arc, moved_with}
+use Rattle.csr_columns.specs.Keeping.{HasPlacesBelow, kept_of, renumbered, new_place, both_ends, beside_arc}
 use Rattle.csr_columns.specs.ViewParts.{bare_arc, heavy_arc}
 use Rattle.csr_columns.specs.Order.{itself, arc_beside}
 use Rattle.csr_columns.proofs.Increasing.{Ascends, All-at}

@@ -1,17 +1,16 @@
 -- What the columns of rows show.
-use Rattle.std.proofs.Common.{◌≡◌, ◌≢◌, ℕ, ℤ, ◌+◌, ◌-◌, ◌<◌, ◌≤◌, cond, List, [], ◌∷◌, length, map, get_or, take, drop, slice_index, Option, Some, None, MatchOption, IfSome, refl, sym, ap, ◌∙◌, subst, zero, suc, true, false, arith}
+use Rattle.std.proofs.Common.{◌≡◌, ℕ, ℤ, ◌+◌, ◌-◌, ◌<◌, List, [], ◌∷◌, length, map, get_or, drop, Option, Some, None, MatchOption, IfSome, refl, sym, ap, ◌∙◌, subst, zero, suc, arith}
 use Rattle.std.specs.List.{All, sum_by, zip}
 use Rattle.std.specs.Str.{bytes_eq}
 use Rattle.std.specs.Cmp.Lexicographic.{bytes_decides}
 use Rattle.std.proofs.lemmas.List.{length-map, length-take, length-drop, get_or-map}
 use Rattle.std.proofs.lemmas.List.Concat.{length-flat_map}
-use Rattle.std.proofs.lemmas.List.FromFn.{length-map-range_with_len}
 use Rattle.std.proofs.lemmas.Slice.Zip.{length-zip, get_or-zip, firsts-zip}
 use Rattle.std.proofs.lemmas.Bool.{cond-true, cond-false, false_from_ne_true}
 use Rattle.graph_model.specs.Projection.{under}
-use Rattle.csr_columns.specs.Rows.{ArcRows, HasTargetsBelow, IsBeside, row_at, column_at}
+use Rattle.csr_columns.specs.Rows.{HasTargetsBelow, IsBeside, row_at, column_at}
 use Rattle.csr_columns.specs.Offsets.{cut_row, cut_rows, shown, IsUnnamed, IsFirstNamed, CutsRows, AreRows}
-use Rattle.csr_columns.proofs.OffsetRows.{length-cut_rows, row_at-cut_rows, listed-cut_rows, offsets_of_row, All-cut_row}
+use Rattle.csr_columns.proofs.OffsetRows.{length-cut_rows, row_at-cut_rows, listed-cut_rows, All-cut_row}
 
 -- the keys stand in the order of the columns
 pub keys-shown : (offsets targets : List ℕ) (keys : List (List ℕ)) (columns : List (List ℤ)) → length keys ≡ length columns → map (λ column. column.0) (shown offsets targets keys columns).columns ≡ keys

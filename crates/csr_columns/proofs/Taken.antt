@@ -1,5 +1,5 @@
 -- Arcs that are taken over: how many they are, where their ends lie, and the values beside them.
-use Rattle.std.proofs.Common.{◌≡◌, inl, inr, ⊎_elim, ℕ, ℤ, ◌+◌, ◌<◌, ◌≤◌, Bool, true, false, ◌&&◌, ◌||◌, cond, List, [], ◌∷◌, ◌++◌, length, map, filter, get_or, Option, Some, None, IfSome, refl, sym, ap, ◌∙◌, subst, zero, suc, arith}
+use Rattle.std.proofs.Common.{◌≡◌, ⊎_elim, ℕ, ℤ, ◌+◌, ◌<◌, ◌≤◌, Bool, true, false, ◌&&◌, ◌||◌, List, [], ◌∷◌, ◌++◌, length, map, get_or, Option, Some, None, IfSome, refl, sym, ap, ◌∙◌, zero, suc, arith}
 use Rattle.std.specs.Option.{is_some}
 use Rattle.std.specs.List.{All, filter_map, cons_option, flat_map, range_with_len, sum_by, list_all, zip}
 use Rattle.std.specs.Str.{bytes_eq}
@@ -12,15 +12,14 @@ use Rattle.std.proofs.lemmas.List.Elements.{All-head, All-tail, All-nil, All-con
 use Rattle.std.proofs.lemmas.List.FromFn.{fill_by_all}
 use Rattle.graph_model.specs.Projection.{is_among, under}
 use Rattle.graph_model.specs.declared.graph.Choice.{Choice}
-use Rattle.csr_columns.specs.Rows.{HasTargetsBelow, IsBeside, LiesBelow, arc_from, arcs_at, arcs_of, listed, listed_column, column_at, names_of, row_at}
+use Rattle.csr_columns.specs.Rows.{IsBeside, LiesBelow, arc_from, arcs_at, arcs_of, listed, listed_column, column_at, names_of, row_at}
 use Rattle.csr_columns.specs.Order.{grouped, source_by, target_by, ordered, itself, arc_beside, ordered_column}
 use Rattle.csr_columns.specs.Parts.{arcs_in, arcs_in_type}
 use Rattle.csr_columns.specs.Choosing.{chosen, chooses_kind, has_column}
-use Rattle.csr_columns.specs.Keeping.{HasPlacesBelow, HasValuesBeside, new_place, both_ends, moved, moved_with, beside_arc, arcs_beside, rows_under, taken_arcs, taken_entries, taken_of, values_beside}
+use Rattle.csr_columns.specs.Keeping.{HasPlacesBelow, HasValuesBeside, new_place, both_ends, moved, moved_with, beside_arc, arcs_beside, rows_under, taken_arcs, taken_of, values_beside}
 use Rattle.csr_columns.specs.declared.parts.TypeColumns.{TypeColumns}
 use Rattle.csr_columns.proofs.Grouping.{grouped-map}
 use Rattle.csr_columns.proofs.ViewArcs.{flat_map-map}
-use Rattle.csr_columns.proofs.PartsRead.{zip-apart}
 
 -- no more than there are
 length-filter_map : {X Y : Type 0} (f : X → Option Y) (xs : List X) → length (filter_map f xs) ≤ length xs

@@ -1,32 +1,32 @@
 -- The view that is made of kept nodes and of arcs that are taken over is the plain view.
-use Rattle.std.proofs.Common.{◌≡◌, ℕ, ℤ, ◌+◌, ◌<◌, ◌≤◌, Bool, true, false, cond, List, [], ◌∷◌, ◌++◌, length, map, filter, get_or, Option, Some, None, IfSome, refl, sym, ap, ◌∙◌, subst, zero, suc, arith}
-use Rattle.std.specs.Option.{is_some, option_map}
+use Rattle.std.proofs.Common.{◌≡◌, ℕ, ℤ, ◌+◌, ◌<◌, ◌≤◌, Bool, true, false, cond, List, [], ◌∷◌, ◌++◌, length, map, filter, get_or, Option, Some, None, refl, sym, ap, ◌∙◌, zero, suc, arith}
+use Rattle.std.specs.Option.{is_some}
 use Rattle.std.specs.Str.{bytes_eq}
 use Rattle.std.specs.List.{All, filter_map, flat_map, range_with_len, enumerate_from, list_all, zip}
 use Rattle.std.specs.List.Sorted.{IsStrictlyIncreasing}
-use Rattle.std.proofs.lemmas.List.{length-map, map-append}
+use Rattle.std.proofs.lemmas.List.{map-append}
 use Rattle.std.proofs.lemmas.Simd.{map-map}
 use Rattle.std.proofs.lemmas.List.FromFn.{fill_by_all, length-map-range_with_len}
 use Rattle.std.proofs.lemmas.List.Elements.{All-head, All-tail, All-nil, All-cons, All-append, All-map, All-filter, filter_map-append}
-use Rattle.graph_model.specs.Projection.{ProjectedArc, ProjectedNode, ProjectedType, missing_value, under}
+use Rattle.graph_model.specs.Projection.{missing_value, under}
 use Rattle.graph_model.specs.declared.graph.Choice.{Choice}
 use Rattle.graph_model.specs.declared.graph.Choice.TheVariants.{All as Each, Of}
-use Rattle.graph_model.specs.View.{ViewArc, PlainView, arcs_within, chooses_node, chosen_ids, chosen_types, first_directed, node_id, plain_view, view_refusal, weighed_arc, weighed_arcs, weight_of}
+use Rattle.graph_model.specs.View.{ViewArc, arcs_within, chooses_node, chosen_ids, chosen_types, first_directed, node_id, plain_view, weighed_arc, weighed_arcs}
 use Rattle.csr_columns.specs.Rows.{ArcRows, HasTargetsBelow, IsBeside, LiesBelow, arc_from, arcs_at, arcs_of, column_at, listed, listed_column, names_of, row_at}
 use Rattle.csr_columns.specs.Order.{ordered, itself, arc_beside}
 use Rattle.csr_columns.specs.Parts.{HasNodes}
-use Rattle.csr_columns.specs.Plain.{plain, plain_arc, plain_arcs, plain_node, plain_type, value_of, values_at}
+use Rattle.csr_columns.specs.Plain.{plain, plain_arc, plain_node, plain_type, values_at}
 use Rattle.csr_columns.specs.Choosing.{chosen, chooses_kind, first_directed_kind, has_column, is_kept, kept_flags}
 use Rattle.csr_columns.specs.Keeping.{HasArcsBelow, HasValuesBeside, arcs_beside, kept_of, moved, moved_with, new_place, renumbered, rows_under, taken_arcs, taken_of}
-use Rattle.csr_columns.specs.ViewParts.{bare_arc, heavy_arc, plain_view_arcs, plain_view_of, view_shown}
+use Rattle.csr_columns.specs.ViewParts.{bare_arc, heavy_arc, plain_view_of, view_shown}
 use Rattle.csr_columns.specs.declared.parts.Parts.{Parts}
 use Rattle.csr_columns.specs.declared.parts.TypeColumns.{TypeColumns}
-use Rattle.csr_columns.proofs.Grouping.{filter-map, flat_map-agree, map-flat_map}
+use Rattle.csr_columns.proofs.Grouping.{filter-map}
 use Rattle.csr_columns.proofs.Increasing.{Ascends-from_increasing}
 use Rattle.csr_columns.proofs.Refusing.{chosen_types-plain, first_directed-plain}
 use Rattle.csr_columns.proofs.Renumbering.{HasPlace, HasPlace-kept, taken-bare, taken-heavy}
 use Rattle.csr_columns.proofs.Taken.{beside-has, under-among, both-first, both-second, length-beside}
-use Rattle.csr_columns.proofs.ViewArcs.{IsTaken, arcs_within-taken, flat_map-map}
+use Rattle.csr_columns.proofs.ViewArcs.{IsTaken, arcs_within-taken}
 
 -- the kept ones of what a function makes of a range
 kept_of-range : {X : Type 0} (keeps : ℕ → Bool) (f : ℕ → X) (a n : ℕ) → kept_of (map keeps (range_with_len a n)) (map f (range_with_len a n)) ≡ map f (filter keeps (range_with_len a n))
@@ -57,12 +57,12 @@ All-range : {X : Type 0} (P : X → Type 0) (f : ℕ → List X) (a n : ℕ) →
 All-range P f a zero each = All-nil P
 All-range P f a (suc n) each = All-append P (f a) (flat_map f (range_with_len (a + 1) n)) (each a (omega arith) (omega arith)) (All-range P f (a + 1) n (λ v low high. each v (omega arith) (omega arith)))
 
-arcs-below : (nodes : ℕ) (rows : List (List ℕ)) → length rows ≡ nodes → HasTargetsBelow rows → All (LiesBelow nodes) (arcs_of rows)
+pub arcs-below : (nodes : ℕ) (rows : List (List ℕ)) → length rows ≡ nodes → HasTargetsBelow rows → All (LiesBelow nodes) (arcs_of rows)
 arcs-below nodes rows long below =
     All-range (LiesBelow nodes) (arcs_at rows) 0 (length rows)
     (λ v low high. All-map (LiesBelow nodes) (arc_from v) (row_at rows v) (λ k d h. (omega arith, omega (arith, below.below v (omega arith) k d h))))
 
-All-zip : {X Y : Type 0} (P : X → Type 0) (xs : List X) (ys : List Y) → All P xs → All (λ (e : X × Y). P e.0) (zip xs ys)
+pub All-zip : {X Y : Type 0} (P : X → Type 0) (xs : List X) (ys : List Y) → All P xs → All (λ (e : X × Y). P e.0) (zip xs ys)
 All-zip {X} {Y} P [] ys all = All-nil (λ (e : X × Y). P e.0)
 All-zip {X} {Y} P (x ∷ xs) [] all = All-nil (λ (e : X × Y). P e.0)
 All-zip {X} {Y} P (x ∷ xs) (y ∷ ys) all = All-cons (λ (e : X × Y). P e.0) (x, y) (zip xs ys) (All-head P x xs all) (All-zip P xs ys (All-tail P x xs all))
@@ -71,7 +71,7 @@ All-pieces : {X Y : Type 0} (P : Y → Type 0) (Q : X → Type 0) (f : X → Lis
 All-pieces P Q f [] each all = All-nil P
 All-pieces P Q f (x ∷ xs) each all = All-append P (f x) (flat_map f xs) (each x (All-head Q x xs all)) (All-pieces P Q f xs each (All-tail Q x xs all))
 
-All-agree : {X : Type 0} (P Q : X → Type 0) (xs : List X) → ((x : X) → P x → Q x) → All P xs → All Q xs
+pub All-agree : {X : Type 0} (P Q : X → Type 0) (xs : List X) → ((x : X) → P x → Q x) → All P xs → All Q xs
 All-agree P Q [] f all = All-nil Q
 All-agree P Q (x ∷ xs) f all = All-cons Q x xs (f x (All-head P x xs all)) (All-agree P Q xs f (All-tail P x xs all))
 
@@ -135,7 +135,7 @@ abbrev entries_of_type : List ℕ → TypeColumns → List ((ℕ × ℕ) × ℤ)
 entries_of_type key type = arcs_beside type.arcs.rows (rows_under (under key type.arcs.columns))
 
 -- the column under a key that a type has
-under-has : (key : List ℕ) (type : TypeColumns) → has_column key type ≡ true → under key type.arcs.columns ≡ Some (rows_under (under key type.arcs.columns))
+pub under-has : (key : List ℕ) (type : TypeColumns) → has_column key type ≡ true → under key type.arcs.columns ≡ Some (rows_under (under key type.arcs.columns))
 under-has key type has = go (under key type.arcs.columns) (under-among key type.arcs.columns has)
   where
     go : (o : Option (List (List ℤ))) → is_some o ≡ true → o ≡ Some (rows_under o)
@@ -214,9 +214,9 @@ module _ (parts : Parts) (labels types : Choice) (up : IsStrictlyIncreasing part
         ∙ ap (λ (ids : List ℕ). arcs_within (flat_map (weighed_arcs (Some key)) (chosen_types (plain parts) types)) ids) (sym (chosen_ids-kept parts labels))
 
     -- the view with weights
-    pub viewed-heavy : (arcs : ArcRows) → arcs_beside arcs.rows (column_at arcs.columns 0) ≡ ordered arc_beside (length new_ids) (flat_map (taken_of places_of key) (chosen types parts.types)) → plain_view_of (view_shown new_ids arcs (Some 0) (first_directed_kind (chosen types parts.types))) ≡ plain_view (plain parts) labels types (Some key)
-    viewed-heavy arcs are =
+    pub viewed-heavy : (place : ℕ) (arcs : ArcRows) → arcs_beside arcs.rows (column_at arcs.columns place) ≡ ordered arc_beside (length new_ids) (flat_map (taken_of places_of key) (chosen types parts.types)) → plain_view_of (view_shown new_ids arcs (Some place) (first_directed_kind (chosen types parts.types))) ≡ plain_view (plain parts) labels types (Some key)
+    viewed-heavy place arcs are =
         let ids : new_ids ≡ chosen_ids (plain parts) labels = sym (chosen_ids-kept parts labels) in
-        let shown : map (heavy_arc new_ids) (arcs_beside arcs.rows (column_at arcs.columns 0)) ≡ arcs_within (flat_map (weighed_arcs (Some key)) (chosen_types (plain parts) types)) (chosen_ids (plain parts) labels) = ap (map (heavy_arc new_ids)) are ∙ heavy-arcs in
+        let shown : map (heavy_arc new_ids) (arcs_beside arcs.rows (column_at arcs.columns place)) ≡ arcs_within (flat_map (weighed_arcs (Some key)) (chosen_types (plain parts) types)) (chosen_ids (plain parts) labels) = ap (map (heavy_arc new_ids)) are ∙ heavy-arcs in
         let first = directed-plain in
         cc

@@ -1,6 +1,6 @@
 -- A projection with one more column.
-use Rattle.std.proofs.Common.{◌≡◌, ◌≢◌, inl, inr, ⊎_elim, eqb, ℕ, ℤ, ◌+◌, ◌<◌, ◌≤◌, Bool, true, false, ◌||◌, cond, List, [], ◌∷◌, ◌++◌, length, map, count_by, get_or, take, drop, refl, sym, ap, ◌∙◌, subst, zero, suc, arith}
-use Rattle.std.specs.List.{All, AllByRecursion, zip, insert, list_any, range_with_len, sum_by}
+use Rattle.std.proofs.Common.{◌≡◌, ◌≢◌, inl, inr, ⊎_elim, eqb, ℕ, ℤ, ◌<◌, ◌≤◌, Bool, true, false, ◌||◌, List, [], ◌∷◌, length, map, get_or, take, drop, refl, sym, ap, ◌∙◌, subst, zero, suc, arith}
+use Rattle.std.specs.List.{All, AllByRecursion, zip, insert, range_with_len}
 use Rattle.std.specs.List.Sorted.{IsStrictlyIncreasing}
 use Rattle.std.specs.Str.{bytes_eq}
 use Rattle.std.specs.Ordering.{nat_cmp, is_lt, ordering_reverse, ordering_then}
@@ -24,11 +24,11 @@ use Rattle.graph_model.specs.declared.graph.Column.{Column}
 use Rattle.csr_columns.specs.declared.parts.Parts.{Parts}
 use Rattle.csr_columns.specs.declared.parts.TypeColumns.{TypeColumns}
 use Rattle.csr_columns.specs.Rows.{names_of}
-use Rattle.csr_columns.specs.Parts.{IsLong, parts_shown, AreColumns, FitTogether}
+use Rattle.csr_columns.specs.Parts.{IsLong, parts_shown, AreColumns}
 use Rattle.csr_columns.specs.Plain.{plain, plain_node, labels_at, value_of, values_at, parts_with_column}
 use Rattle.csr_columns.proofs.Increasing.{increasing-less}
 use Rattle.csr_columns.proofs.OffsetRows.{map-range_agree}
-use Rattle.csr_columns.proofs.Ascending.{count_by-yes, count_by-no, count_by-none}
+use Rattle.csr_columns.proofs.Ascending.{count_by-yes, count_by-no}
 
 both_equal : (a b : Ordering) → ordering_then a b ≡ Equal → (a ≡ Equal) × (b ≡ Equal)
 both_equal Less b h = absurd cc

@@ -2,7 +2,7 @@
 use Rattle.std.specs.Prelude.{◌≡◌, ℕ, ℤ, ◌<◌, List, length, All}
 use Rattle.std.specs.List.Sorted.{IsSorted}
 use Rattle.graph_model.specs.Arcs.{targets_of, degree_of}
-use Rattle.csr_columns.specs.Rows.{LiesBelow, arc_cmp, rows_of, row_at, values_of, column_of, arcs_of, listed}
+use Rattle.csr_columns.specs.Rows.{LiesBelow, arc_cmp, rows_of, row_at, column_of, arcs_of, listed}
 
 -- the row of a node holds the targets of the arcs from it
 abbrev pub RowHoldsTargets : Type 0

@@ -3,7 +3,7 @@
 --   arcs_in types              the number of arcs of types
 --   flag_at labels name v      whether the node at a place has a label
 --   value_at columns key v     the value of the node at a place under a key, where there is such a key
-use Rattle.std.specs.Prelude.{◌≡◌, ℕ, ℤ, pos, ◌<◌, ◌≤◌, Bool, false, List, [], ◌∷◌, length, map, sum_by, slice_index_or, Option, None, Some, All}
+use Rattle.std.specs.Prelude.{◌≡◌, ℕ, ℤ, ◌≤◌, Bool, false, List, length, map, sum_by, slice_index_or, Option, None, Some, All}
 use Rattle.std.specs.List.{zip}
 use Rattle.std.specs.List.Sorted.{IsStrictlyIncreasing}
 use Rattle.graph_model.specs.Lists.{Pairwise}

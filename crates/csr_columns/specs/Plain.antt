@@ -4,7 +4,7 @@
 --   plain_arcs ids arcs              the arcs of rows, with their values
 --   plain parts                      a projection as plain rows
 --   parts_with_column p key column   a projection with one more column, in columns
-use Rattle.std.specs.Prelude.{ℕ, ℤ, Bool, false, List, [], map, filter, length, slice_index, slice_index_or}
+use Rattle.std.specs.Prelude.{ℕ, ℤ, Bool, false, List, map, filter, length, slice_index, slice_index_or}
 use Rattle.std.specs.List.{range_with_len, enumerate_from, insert}
 use Rattle.graph_model.specs.Projection.{ProjectedNode, ProjectedArc, ProjectedType, PlainProjection, missing_value, place_among, value_for}
 use Rattle.graph_model.specs.declared.graph.Column.{Column}

@@ -15,7 +15,7 @@
 --   HasTargetsBelow rows           the targets of all arcs lie below the number of nodes
 --   IsBeside rows column           a column has a value beside each target of rows
 --   turned_rows rows               every arc turned, and the values with it
-use Rattle.std.specs.Prelude.{◌≡◌, ℕ, ℤ, ◌<◌, ◌≢◌, Bool, Option, Some, None, List, [], ◌∷◌, length, map, filter, slice_index_or, All, AllPairs}
+use Rattle.std.specs.Prelude.{◌≡◌, ℕ, ℤ, ◌<◌, ◌≢◌, Bool, Option, Some, None, List, [], length, map, filter, slice_index_or, All, AllPairs}
 use Rattle.std.specs.declared.cmp.Ordering.{Ordering}
 use Rattle.std.specs.Ordering.{nat_cmp, ordering_then}
 use Rattle.std.specs.List.{range_with_len, flat_map, zip}

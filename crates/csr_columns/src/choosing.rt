@@ -1,10 +1,10 @@
 // Choices of labels and types, resolved by name.
-ghost use Rattle.std.specs.Prelude.{◌≡◌, ◌&&◌, not, map, option_copied};
+ghost use Rattle.std.specs.Prelude.{◌≡◌, ◌&&◌, ◌∷◌, [], not, map, count_by, IfSome, option_copied};
 ghost use Rattle.std.specs.List.{list_all};
 ghost use Rattle.graph_model.specs.Projection.{is_among};
 ghost use Rattle.graph_model.specs.View.{unknown_choice, first_unknown};
 ghost use Rattle.csr_columns.specs.Parts.{kind_of};
-ghost use Rattle.csr_columns.specs.Choosing.{chooses_name, chooses_kind, chosen, has_column, first_directed_kind};
+ghost use Rattle.csr_columns.specs.Choosing.{chooses_name, chooses_kind, chosen, first_of, has_column, first_directed_kind};
 
 use crate::columns;
 use crate::parts::TypeColumns;
@@ -106,6 +106,39 @@ pub(crate) fn first_directed<'a>(types: &'a [TypeColumns], choice: &Choice) -> O
     for kind in types {
         if chooses(choice, &kind.kind) && kind.orientation != Orientation::Undirected {
             return Some(&kind.kind);
+        }
+    }
+    None
+}
+
+/// The one chosen type, `None` where none or several are chosen.
+pub(crate) fn only_chosen<'a>(types: &'a [TypeColumns], choice: &Choice) -> Option<&'a TypeColumns>
+    ensures { IfSome (option_copied result) (λ type. chosen choice.now types.now ≡ type ∷ []) }
+{
+    if chosen_count(types, choice) == 1 {
+        first_chosen(types, choice)
+    } else {
+        None
+    }
+}
+
+/// How many types are chosen.
+fn chosen_count(types: &[TypeColumns], choice: &Choice) -> usize
+    ensures { result ≡ count_by (chooses_kind choice.now) types.now }
+{
+    types
+        .iter()
+        .filter(|kind| chooses(choice, &kind.kind))
+        .count()
+}
+
+/// The first chosen type.
+fn first_chosen<'a>(types: &'a [TypeColumns], choice: &Choice) -> Option<&'a TypeColumns>
+    ensures { option_copied result ≡ first_of (chosen choice.now types.now) }
+{
+    for kind in types {
+        if chooses(choice, &kind.kind) {
+            return Some(kind);
         }
     }
     None

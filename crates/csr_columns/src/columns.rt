@@ -1,7 +1,8 @@
 // Slices of columns: cut into rows, picked by places, and found under keys.
-ghost use Rattle.std.specs.Prelude.{◌≡◌, ◌+◌, ◌<◌, length, map, All, MatchOption, IfOk, option_copied, slice_index_or};
+ghost use Rattle.std.specs.Prelude.{◌≡◌, ◌+◌, ◌<◌, true, length, map, All, MatchOption, IfOk, option_copied, slice_index_or};
 ghost use Rattle.std.specs.List.{zip};
 ghost use Rattle.graph_model.specs.Projection.{is_among, under};
+ghost use Rattle.csr_columns.specs.Order.{IsAscending};
 ghost use Rattle.csr_columns.specs.Offsets.{CutsRows, IsFirstNamed, IsUnnamed, cut_row, item_at, picked_column};
 
 use graph_model::{List, Mem, Name, Shared};
@@ -17,6 +18,18 @@ pub(crate) fn cut<'a, T>(offsets: &[u32], items: &'a [T], v: u32) -> &'a [T]
     let start = offsets[v as usize] as usize;
     let end = offsets[v as usize + 1] as usize;
     &items[start..end]
+}
+
+/// Whether no number is less than the one before it.
+pub(crate) fn is_ascending(row: &[u32]) -> bool
+    ensures { result ≡ true → IsAscending row.now }
+{
+    for place in 1..row.len() {
+        if row[place] < row[place - 1] {
+            return false;
+        }
+    }
+    true
 }
 
 /// The place of a name in a list of names.

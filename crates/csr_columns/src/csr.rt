@@ -1,9 +1,9 @@
 // Arcs by source, in columns.
-ghost use Rattle.std.specs.Prelude.{◌≡◌, ◌^◌, ◌<◌, [], length, map, sum_by, All, MatchOption, IfOk, IfSome, None, Some, option_copied};
+ghost use Rattle.std.specs.Prelude.{◌≡◌, ◌^◌, ◌<◌, true, [], length, map, sum_by, All, MatchOption, IfOk, IfSome, None, Some, option_copied};
 ghost use Rattle.std.specs.List.{zip};
 ghost use Rattle.std.specs.List.Sorted.{IsSorted};
 ghost use Rattle.csr_columns.specs.Rows.{HasTargetsBelow, IsBeside, names_of, LiesBelow, AreDistinct, arc_cmp, arc_rows_of, row_at, column_at, row_in, arcs_of, listed_column, turned_rows};
-ghost use Rattle.csr_columns.specs.Order.{ordered, ordered_column, itself};
+ghost use Rattle.csr_columns.specs.Order.{HasAscendingRows, ordered, ordered_column, itself};
 ghost use Rattle.graph_model.specs.Projection.{is_among, under};
 
 use crate::ordering::{self, Order};
@@ -148,6 +148,19 @@ impl Csr {
         ensures distinct { AreDistinct result.now }
     {
         self.keys.as_slice()
+    }
+
+    /// Whether each row ascends.
+    pub(crate) fn has_ascending_rows(&self) -> bool
+        ensures ascend { result ≡ true → HasAscendingRows self.now.rows }
+        ensures below { HasTargetsBelow self.now.rows }
+    {
+        for v in 0..self.node_count() {
+            if !columns::is_ascending(self.row(v)) {
+                return false;
+            }
+        }
+        true
     }
 
     /// Whether there is a column under a key.

@@ -159,6 +159,14 @@ impl Projection {
         }
     }
 
+    // The ids of the nodes, shared.
+    pub(crate) fn shared_ids(&self) -> Result<Shared<List<u32>>, Mem>
+        ensures ids { IfOk result (λ ids. ids ≡ self.now.ids) }
+        ensures fit { OnOk result (FitTogether self.now) }
+    {
+        self.ids.try_clone()
+    }
+
     // Whether each node has a chosen label.
     pub(crate) fn kept_flags(&self, alloc: Global, labels: &Choice) -> Result<Vec<bool>, Mem>
         ensures { IfOk result (λ kept. kept.items ≡ kept_flags labels.now self.now.labels (length self.now.ids)) }

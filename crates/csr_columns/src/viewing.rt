@@ -1,12 +1,13 @@
 // The view of a projection: choices resolved, nodes kept, and arcs taken over.
-ghost use Rattle.std.specs.Prelude.{◌≡◌, ◌≤◌, true, length, Some, None, Ok, Err, IfOk, IfErr, OnOk, option_copied};
+ghost use Rattle.std.specs.Prelude.{◌≡◌, ◌≤◌, ◌∷◌, [], true, length, All, Some, None, Ok, Err, IfOk, IfErr, IfSome, OnOk, option_copied};
 ghost use Rattle.std.specs.List.{list_all};
 ghost use Rattle.std.specs.List.Sorted.{IsStrictlyIncreasing};
 ghost use Rattle.graph_model.specs.View.{view_refusal, view_of, plain_view};
 ghost use Rattle.graph_model.specs.Refusals.{UnlessMem};
+ghost use Rattle.csr_columns.specs.Parts.{FitTogether};
 ghost use Rattle.csr_columns.specs.Plain.{plain};
-ghost use Rattle.csr_columns.specs.ViewParts.{plain_view_of};
-ghost use Rattle.csr_columns.specs.Choosing.{chosen, has_column, kept_flags, first_directed_kind};
+ghost use Rattle.csr_columns.specs.ViewParts.{StandsAmong, plain_view_of, view_shown};
+ghost use Rattle.csr_columns.specs.Choosing.{IsWhole, chosen, has_column, kept_flags, first_directed_kind};
 ghost use Rattle.csr_columns.specs.Keeping.{HasPlacesBelow, kept_of, renumbered};
 ghost use Rattle.graph_model.specs.Graph.{most_nodes};
 
@@ -26,7 +27,7 @@ struct Kept {
 
 impl Projection {
     /// The nodes with a chosen label, and the arcs of the chosen types between them, with their weights where a weight key
-    /// is given.
+    /// is given. A view of all nodes and one type whose rows ascend shares the ids and the rows.
     ///
     /// # Errors
     /// `NoSuchLabel` with the first label that isn't projected, else `NoSuchType` with the first type that isn't, else
@@ -85,6 +86,85 @@ impl Projection {
     fn bare_view(&self, alloc: Global, labels: &Choice, types: &Choice) -> Result<View, Mem>
         ensures { IfOk result (λ view. plain_view_of view ≡ plain_view (plain self.now) labels.now types.now None) }
     {
+        match self.whole_type(alloc, labels, types)? {
+            Some(kind) => self.sharing_view(kind, types, None),
+            None => self.bare_copy(alloc, labels, types),
+        }
+    }
+
+    // The view with the weights under a key that each chosen type has.
+    fn heavy_view(
+        &self,
+        alloc: Global,
+        labels: &Choice,
+        types: &Choice,
+        key: &Name,
+    ) -> Result<View, Mem>
+        requires { list_all (has_column key.now) (chosen types.now self.now.types) ≡ true }
+        ensures { IfOk result (λ view. plain_view_of view ≡ plain_view (plain self.now) labels.now types.now (Some key.now)) }
+    {
+        match self.whole_type(alloc, labels, types)? {
+            Some(kind) => self.sharing_view(kind, types, kind.arcs.get().place_of(key)),
+            None => self.heavy_copy(alloc, labels, types, key),
+        }
+    }
+
+    // The one chosen type, where each node is chosen and the type's rows ascend: a view shares its rows then.
+    fn whole_type(
+        &self,
+        alloc: Global,
+        labels: &Choice,
+        types: &Choice,
+    ) -> Result<Option<&TypeColumns>, Mem>
+        ensures { IfOk result (λ kind. IfSome (option_copied kind) (IsWhole self.now labels.now types.now)) }
+    {
+        let Some(kind) = choosing::only_chosen(self.types(), types) else {
+            return Ok(None);
+        };
+        if !kind.arcs.get().has_ascending_rows() {
+            return Ok(None);
+        }
+        if !self.chooses_all(alloc, labels)? {
+            return Ok(None);
+        }
+        Ok(Some(kind))
+    }
+
+    // Whether each node is chosen.
+    fn chooses_all(&self, alloc: Global, labels: &Choice) -> Result<bool, Mem>
+        ensures { IfOk result (λ all. all ≡ true → All (λ kept. kept ≡ true) (kept_flags labels.now self.now.labels (length self.now.ids))) }
+    {
+        if let Choice::All = labels {
+            return Ok(true);
+        }
+        let kept = self.kept_flags(alloc, labels)?;
+        Ok(kept.iter().all(|flag| *flag))
+    }
+
+    // The view of all nodes and one type, which shares the ids and the type's rows.
+    fn sharing_view(
+        &self,
+        kind: &TypeColumns,
+        types: &Choice,
+        weight: Option<usize>,
+    ) -> Result<View, Mem>
+        requires only { chosen types.now self.now.types ≡ kind.now ∷ [] }
+        requires weighted { StandsAmong weight (length kind.now.arcs.columns) }
+        ensures view { IfOk result (λ view. view ≡ view_shown self.now.ids kind.now.arcs weight (first_directed_kind (chosen types.now self.now.types))) }
+        ensures fit { OnOk result (FitTogether self.now) }
+    {
+        Ok(View {
+            ids: self.shared_ids()?,
+            arcs: kind.arcs.try_clone()?,
+            weight,
+            directed: directed(self.types(), types)?,
+        })
+    }
+
+    // The view without weights, in rows of its own.
+    fn bare_copy(&self, alloc: Global, labels: &Choice, types: &Choice) -> Result<View, Mem>
+        ensures { IfOk result (λ view. plain_view_of view ≡ plain_view (plain self.now) labels.now types.now None) }
+    {
         let Kept { ids, places } = self.keep(alloc, labels)?;
         let arcs = taking::bare_rows(alloc, ids.len() as u32, self.types(), types, &places)?;
         Ok(View {
@@ -95,8 +175,8 @@ impl Projection {
         })
     }
 
-    // The view with the weights under a key that each chosen type has.
-    fn heavy_view(
+    // The view with the weights under a key that each chosen type has, in rows of its own.
+    fn heavy_copy(
         &self,
         alloc: Global,
         labels: &Choice,

@@ -1,4 +1,4 @@
-use Rattle.std.proofs.Common.{◌≡◌, ◌<◌, ℕ, ℤ, w64, get_or, length, sym, ap, ◌∙◌, to_z-of_z, arith, rules}
+use Rattle.std.proofs.Common.{◌≡◌, w64, get_or, ◌∙◌, to_z-of_z, arith, rules}
 use Rattle.graph_model.specs.Projection.{missing_value}
 use Rattle.csr_columns.proofs.WithColumn.{value_beside-found, value_beside-none, nowhere}
 use Rattle.csr_columns.proofs.adding.value_beside.Goals as goal

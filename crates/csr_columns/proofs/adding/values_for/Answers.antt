@@ -1,4 +1,4 @@
-use Rattle.std.proofs.Common.{◌≡◌, ◌+◌, ◌<◌, ◌≤◌, ◌∷◌, [], ◌++◌, ℕ, ℤ, List, map, take, w64, get_or, length, sym, ◌∙◌, ap, subst, ⊎_elim, to_z-of_z, arith, rules}
+use Rattle.std.proofs.Common.{◌<◌, ◌≤◌, ◌∷◌, [], ◌++◌, ℤ, List, w64, get_or, sym, ◌∙◌, ap, ⊎_elim, to_z-of_z, arith, rules}
 use Rattle.std.proofs.lemmas.Bool.{cases_lt}
 use Rattle.std.proofs.lemmas.List.{map_more}
 use Rattle.graph_model.specs.Projection.{value_for}

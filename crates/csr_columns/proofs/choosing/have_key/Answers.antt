@@ -1,4 +1,4 @@
-use Rattle.std.proofs.Common.{◌∙◌, sym, arith, rules}
+use Rattle.std.proofs.Common.{◌∙◌, sym, arith}
 use Rattle.csr_columns.specs.Choosing.{chooses_kind, has_column}
 use Rattle.csr_columns.proofs.Chosen.{all-lacking, all-fitting}
 use Rattle.csr_columns.proofs.choosing.have_key.Goals as goal

@@ -1,4 +1,4 @@
-use Rattle.std.proofs.Common.{◌∙◌, sym, arith, rules}
+use Rattle.std.proofs.Common.{◌∙◌, sym, arith}
 use Rattle.csr_columns.proofs.Chosen.{is_among-found, is_among-next}
 use Rattle.csr_columns.proofs.choosing.is_type.Goals as goal
 

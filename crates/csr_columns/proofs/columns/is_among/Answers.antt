@@ -1,4 +1,4 @@
-use Rattle.std.proofs.Common.{◌≡◌, Bool, List, ℕ, Option, Some, None, MatchOption, length, sym, ◌∙◌}
+use Rattle.std.proofs.Common.{◌≡◌, List, ℕ, Option, Some, None, MatchOption, length, sym, ◌∙◌}
 use Rattle.std.specs.Option.{is_some}
 use Rattle.graph_model.specs.Projection.{is_among}
 use Rattle.csr_columns.specs.Offsets.{IsUnnamed, IsFirstNamed}

@@ -1,6 +1,6 @@
-use Rattle.std.proofs.Common.{◌≡◌, ◌+◌, ◌<◌, ℕ, ℤ, List, Option, Some, None, ◌++◌, ◌∷◌, [], get_or, length, map, ap, sym, ◌∙◌, arith}
+use Rattle.std.proofs.Common.{◌≡◌, ◌+◌, ℕ, ℤ, List, ◌++◌, [], length, ap, sym, ◌∙◌, arith}
 use Rattle.std.specs.List.{filter_map, flat_map, range_with_len, zip}
-use Rattle.csr_columns.specs.Rows.{arcs_at, arc_from, row_at, column_at}
+use Rattle.csr_columns.specs.Rows.{row_at, column_at}
 use Rattle.csr_columns.specs.Keeping.{moved_with, value_from, new_place, values_beside}
 use Rattle.csr_columns.proofs.Gathered.{entries_at, grown, same, values-more, moved-values, moved-no_values, arcs_beside-rows, there, not_there}
 use Rattle.csr_columns.proofs.gathering.gather_columns.Goals as goal

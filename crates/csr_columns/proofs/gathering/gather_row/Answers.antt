@@ -1,4 +1,4 @@
-use Rattle.std.proofs.Common.{◌≡◌, ◌+◌, ℕ, List, Option, Some, None, ◌++◌, ◌∷◌, [], get_or, take, ap, sym, ◌∙◌, arith}
+use Rattle.std.proofs.Common.{◌≡◌, ◌+◌, ℕ, Option, Some, None, ◌++◌, ◌∷◌, [], get_or, take, ap, ◌∙◌, arith}
 use Rattle.std.specs.List.{filter_map, cons_option}
 use Rattle.csr_columns.specs.Keeping.{moved_from, both_ends, new_place}
 use Rattle.csr_columns.proofs.Gathered.{grown, same, filter_map-more}

@@ -1,7 +1,7 @@
-use Rattle.std.proofs.Common.{◌≡◌, ◌+◌, ℕ, List, Option, Some, None, ◌++◌, ◌∷◌, [], get_or, map, ap, sym, ◌∙◌, arith}
+use Rattle.std.proofs.Common.{◌+◌, []}
 use Rattle.std.specs.List.{filter_map, flat_map, range_with_len}
-use Rattle.csr_columns.specs.Rows.{arcs_at, arc_from, row_at}
-use Rattle.csr_columns.specs.Keeping.{moved, moved_from, new_place}
+use Rattle.csr_columns.specs.Rows.{arcs_at, row_at}
+use Rattle.csr_columns.specs.Keeping.{moved, moved_from}
 use Rattle.csr_columns.proofs.Gathered.{grown, same, arcs-more, moved-row, moved-no_row}
 use Rattle.csr_columns.proofs.gathering.gather_rows.Goals as goal
 use Rattle.csr_columns.proofs.gathering.gather_rows.Goals.{in-Some+in_ok-gather_row, in_default}

@@ -1,5 +1,4 @@
-use Rattle.std.proofs.Common.{◌≡◌, ℤ, List, ◌++◌, [], ap, sym, ◌∙◌}
-use Rattle.csr_columns.specs.Keeping.{taken_entries, rows_under, values_beside}
+use Rattle.std.proofs.Common.{ℤ, List, ◌++◌, ap, sym, ◌∙◌}
 use Rattle.csr_columns.proofs.Gathered.{nothing, nothing_beside}
 use Rattle.csr_columns.proofs.gathering.gather_under.Goals as goal
 

@@ -1,4 +1,4 @@
-use Rattle.std.proofs.Common.{◌≡◌, ◌+◌, ℕ, ℤ, w64, List, Option, Some, None, pos, ◌++◌, ◌∷◌, [], get_or, take, ap, sym, ◌∙◌, to_z-of_z, arith, rules}
+use Rattle.std.proofs.Common.{◌+◌, ℕ, ℤ, w64, Option, pos, ◌++◌, ◌∷◌, [], get_or, take, ap, sym, ◌∙◌, to_z-of_z, arith, rules}
 use Rattle.std.specs.List.{filter_map, cons_option, zip}
 use Rattle.std.proofs.lemmas.List.Elements.{filter_map-append}
 use Rattle.csr_columns.specs.Keeping.{value_from, value_if, new_place}

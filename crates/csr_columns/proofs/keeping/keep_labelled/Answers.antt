@@ -1,4 +1,4 @@
-use Rattle.std.proofs.Common.{◌≡◌, ◌+◌, ◌<◌, ℕ, Bool, List, [], ◌||◌, true, false, length, get_or, sym, ap, ◌∙◌, refl, subst, arith, rules}
+use Rattle.std.proofs.Common.{◌+◌, ◌<◌, Bool, [], ◌||◌, false, length, get_or, sym, ap, ◌∙◌, arith}
 use Rattle.csr_columns.proofs.Chosen.{any_label, kept-among, kept-other, same_default}
 use Rattle.csr_columns.proofs.keeping.keep_labelled.Goals as goal
 use Rattle.csr_columns.proofs.keeping.keep_labelled.Goals.{then-is_among, else-is_among}

@@ -1,4 +1,4 @@
-use Rattle.std.proofs.Common.{◌≡◌, ◌∙◌, length, arith, rules}
+use Rattle.std.proofs.Common.{◌≡◌, ◌∙◌, length, arith}
 use Rattle.std.specs.List.{zip}
 use Rattle.csr_columns.proofs.Chosen.{all-kept, labelled-kept, take-front}
 use Rattle.csr_columns.proofs.keeping.kept_flags.Goals as goal

@@ -1,4 +1,4 @@
-use Rattle.std.proofs.Common.{◌≡◌, ◌+◌, ℕ, Bool, true, false, List, ◌++◌, ◌∷◌, [], length, get_or, drop, sym, ap, ◌∙◌, refl, append_assoc, arith, rules}
+use Rattle.std.proofs.Common.{◌+◌, ℕ, false, List, ◌++◌, ◌∷◌, [], get_or, drop, sym, ap, ◌∙◌, append_assoc, arith}
 use Rattle.std.proofs.lemmas.Bool.{cond-true, cond-false}
 use Rattle.csr_columns.specs.Keeping.{kept_of}
 use Rattle.csr_columns.proofs.Chosen.{kept_of-more}

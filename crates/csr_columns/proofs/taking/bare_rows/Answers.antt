@@ -1,7 +1,5 @@
-use Rattle.std.proofs.Common.{◌≡◌, ℕ, List, length, map, ap, sym, ◌∙◌, arith}
-use Rattle.std.specs.List.{flat_map}
+use Rattle.std.proofs.Common.{arith}
 use Rattle.csr_columns.specs.Choosing.{chosen}
-use Rattle.csr_columns.specs.Keeping.{taken_arcs}
 use Rattle.csr_columns.proofs.Taken.{length-taken, taken-below}
 use Rattle.csr_columns.proofs.taking.bare_rows.Goals as goal
 

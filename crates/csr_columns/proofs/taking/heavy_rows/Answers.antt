@@ -1,9 +1,8 @@
-use Rattle.std.proofs.Common.{◌≡◌, ◌<◌, ℕ, ℤ, List, [], ◌∷◌, length, map, get_or, zero, suc, ap, sym, ◌∙◌, subst, arith}
-use Rattle.std.specs.List.{All, flat_map}
+use Rattle.std.proofs.Common.{◌≡◌, ℕ, ℤ, List, [], length, ap, sym, ◌∙◌, arith}
+use Rattle.std.specs.List.{flat_map}
 use Rattle.std.proofs.lemmas.List.Elements.{All-cons, All-nil}
-use Rattle.csr_columns.specs.Order.{arc_beside}
 use Rattle.csr_columns.specs.Choosing.{chosen}
-use Rattle.csr_columns.specs.Keeping.{taken_arcs, taken_of, values_beside}
+use Rattle.csr_columns.specs.Keeping.{taken_of}
 use Rattle.csr_columns.proofs.Taken.{length-taken, taken-below, arcs-taken, length-weights, entries-ordered}
 use Rattle.csr_columns.proofs.taking.heavy_rows.Goals as goal
 

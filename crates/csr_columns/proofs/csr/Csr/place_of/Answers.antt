@@ -1,4 +1,4 @@
-use Rattle.std.proofs.Common.{◌≡◌, ℕ, ◌<◌, List, Some, None, MatchOption, IfSome, length, subst}
+use Rattle.std.proofs.Common.{◌≡◌, ◌<◌, Some, None, MatchOption, IfSome, length, subst}
 use Rattle.graph_model.specs.Projection.{under}
 use Rattle.csr_columns.specs.Rows.{ArcRows, IsBeside, column_at}
 use Rattle.csr_columns.proofs.Shown.{place-shown, beside-found}

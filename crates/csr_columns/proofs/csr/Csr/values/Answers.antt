@@ -1,6 +1,6 @@
-use Rattle.std.proofs.Common.{◌≡◌, ◌+◌, ◌<◌, ℕ, ℤ, List, length, ap, sym, subst, ◌∙◌, arith}
+use Rattle.std.proofs.Common.{◌≡◌, ◌<◌, ℕ, ℤ, List, length, ap, sym, subst, ◌∙◌, arith}
 use Rattle.csr_columns.specs.Rows.{ArcRows, row_at, column_at}
-use Rattle.csr_columns.specs.Offsets.{CutsRows, cut_row}
+use Rattle.csr_columns.specs.Offsets.{cut_row}
 use Rattle.csr_columns.proofs.OffsetRows.{offsets_of_row, row_at-cut_rows}
 use Rattle.csr_columns.proofs.Shown.{length-columns-shown, length-cut_row, values-shown}
 use Rattle.csr_columns.proofs.csr.Csr.values.Goals as goal

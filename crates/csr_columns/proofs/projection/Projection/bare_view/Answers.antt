@@ -1,11 +1,17 @@
-use Rattle.std.proofs.Common.{◌≡◌, length, ap, sym, ◌∙◌}
-use Rattle.csr_columns.proofs.Viewed.{viewed-bare}
+use Rattle.std.proofs.Common.{◌≡◌, None, ap, ◌∙◌}
+use Rattle.graph_model.specs.View.{plain_view}
+use Rattle.csr_columns.specs.Plain.{plain}
+use Rattle.csr_columns.specs.Parts.{FitTogether}
+use Rattle.csr_columns.specs.Choosing.{chosen, first_directed_kind}
+use Rattle.csr_columns.specs.ViewParts.{plain_view_of, view_shown}
+use Rattle.csr_columns.proofs.Sharing.{made, shared-bare}
 use Rattle.csr_columns.proofs.projection.Projection.bare_view.Goals as goal
 
-pub returns : goal.returns
-returns c =
-    let rows = rw (c.types.ensures.types) at c.types.ensures.rows in
-    let below = rw (c.types.ensures.types) at c.in_ok-arcs.ensures.below in
-    let arcs = rw (c.types.ensures.types, c.len.ensures, c.deref.ensures.value, c.in_ok-ids.ensures.ids, c.in_ok-ids.ensures.places) at c.in_ok-arcs.ensures.arcs in
-    rw (c.in_ok-new.ensures, c.in_ok-new-2.ensures, c.in_ok-directed.ensures, c.types-2.ensures.types, c.in_ok-ids.ensures.ids)
-    (viewed-bare c.args.self.now c.args.labels.now c.args.types.now c.in_ok-ids.ensures.sorted rows below c.in_ok-arcs.arcs arcs)
+pub returns-in-Some : goal.returns-in-Some
+returns-in-Some c =
+    let whole = rw c.in-Some.is at c.in_ok-kind.ensures in
+    made c.sharing_view.result
+    (λ view. view ≡ view_shown c.args.self.now.ids c.in-Some.kind.now.arcs None (first_directed_kind (chosen c.args.types.now c.args.self.now.types)))
+    (λ view. plain_view_of view ≡ plain_view (plain c.args.self.now) c.args.labels.now c.args.types.now None)
+    (FitTogether c.args.self.now) c.sharing_view.ensures.view c.sharing_view.ensures.fit
+    (λ fit view is. ap plain_view_of is ∙ shared-bare c.args.self.now c.args.labels.now c.args.types.now fit c.in-Some.kind.now whole)

@@ -1,8 +1,7 @@
-use Rattle.std.proofs.Common.{◌≡◌, ℕ, Bool, List, length, map, ap, sym, ◌∙◌, arith}
-use Rattle.std.specs.List.Sorted.{IsStrictlyIncreasing}
+use Rattle.std.proofs.Common.{ℕ, List, length, ap, ◌∙◌, arith}
 use Rattle.std.proofs.lemmas.List.FromFn.{length-map-range_with_len}
 use Rattle.csr_columns.specs.Choosing.{is_kept, kept_flags}
-use Rattle.csr_columns.specs.Keeping.{HasPlacesBelow, kept_of, renumbered}
+use Rattle.csr_columns.specs.Keeping.{kept_of}
 use Rattle.csr_columns.proofs.Increasing.{Ascends-from_increasing, increasing-from_Ascends}
 use Rattle.csr_columns.proofs.Renumbering.{Ascends-kept, length-kept, length-renumbered, HasPlacesBelow-kept}
 use Rattle.csr_columns.proofs.projection.Projection.keep.Goals as goal

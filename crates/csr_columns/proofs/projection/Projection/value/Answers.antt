@@ -1,4 +1,4 @@
-use Rattle.std.proofs.Common.{ℤ, List, ℕ, length, ap, sym, ◌∙◌, arith}
+use Rattle.std.proofs.Common.{ℤ, length, ap, arith}
 use Rattle.csr_columns.specs.Parts.{IsLong}
 use Rattle.csr_columns.specs.declared.parts.Parts.{Parts}
 use Rattle.csr_columns.proofs.PartsRead.{All-under}

@@ -1,4 +1,3 @@
-use Rattle.std.proofs.Common.{◌≡◌, ap, sym, ◌∙◌}
 use Rattle.csr_columns.proofs.Refusing.{key-there}
 use Rattle.csr_columns.proofs.projection.Projection.view.Goals as goal
 

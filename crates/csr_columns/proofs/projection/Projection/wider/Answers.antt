@@ -1,8 +1,7 @@
-use Rattle.std.proofs.Common.{◌≡◌, false, ap, sym, ◌∙◌, subst}
+use Rattle.std.proofs.Common.{◌≡◌, false, ap, ◌∙◌}
 use Rattle.std.proofs.lemmas.Slice.Zip.{firsts-zip}
 use Rattle.graph_model.specs.Projection.{is_among}
 use Rattle.csr_columns.specs.Plain.{parts_with_column}
-use Rattle.csr_columns.specs.Rows.{names_of}
 use Rattle.csr_columns.specs.declared.parts.Parts.{Parts}
 use Rattle.csr_columns.proofs.WithColumn.{shown-wider, AreColumns-wider}
 use Rattle.csr_columns.proofs.projection.Projection.wider.Goals as goal
