@@ -1,5 +1,5 @@
 -- Names that are in order are distinct, and so are the keys of an object.
-use Rattle.std.proofs.Common.{◌≡◌, ◌≢◌, ℕ, ℤ, ◌<◌, length, arith, Bool, true, false, cond, List, [], ◌∷◌, ◌++◌, map, Option, Some, None, String, string_bytes, string_cmp, Ordering, Less, Equal, nat_cmp, refl, sym, ap, subst, ◌∙◌}
+use Rattle.std.proofs.Common.{◌≡◌, ℕ, ℤ, ◌<◌, length, arith, Bool, true, false, cond, List, [], ◌∷◌, map, Option, Some, None, String, string_bytes, string_cmp, Less, Equal, nat_cmp, refl, sym, ap, subst, ◌∙◌}
 use Rattle.std.specs.List.{AllByRecursion}
 use Rattle.std.specs.List.Sorted.{IsStrictlySortedBy}
 use Rattle.std.specs.Map.{keys_of}
@@ -12,7 +12,7 @@ use Rattle.graph_model.specs.declared.graph.Prop.{Prop}
 use Rattle.graph_model.specs.Names.{is_name}
 use Rattle.graph_model.specs.Lists.{Pairwise}
 use Rattle.graph_model.specs.Change.{NamesDiffer, KeysDiffer}
-use Rattle.call_codec.specs.Words.{name_of, read_whole, before_others}
+use Rattle.call_codec.specs.Words.{read_whole, before_others}
 use Rattle.call_codec.specs.Elements.{prop_from, props_of, each_once}
 
 -- a text that comes before another is another one

@@ -1,4 +1,4 @@
-use Rattle.std.proofs.Common.{◌≡◌, subst, sym, rules, ◌<◌, length, arith}
+use Rattle.std.proofs.Common.{◌≡◌, subst, sym, rules, arith}
 use Rattle.graph_model.specs.Lists.{Pairwise}
 use Rattle.graph_model.specs.Change.{NamesDiffer}
 use Rattle.call_codec.proofs.DistinctLemmas.{names_differ, few_once, few_differ}
