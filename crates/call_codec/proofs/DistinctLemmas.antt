@@ -1,5 +1,5 @@
 -- Names that are in order are distinct, and so are the keys of an object.
-use Rattle.std.proofs.Common.{◌≡◌, ◌≢◌, ℕ, ℤ, Bool, true, false, cond, List, [], ◌∷◌, ◌++◌, map, Option, Some, None, String, string_bytes, string_cmp, Ordering, Less, Equal, nat_cmp, refl, sym, ap, subst, ◌∙◌}
+use Rattle.std.proofs.Common.{◌≡◌, ℕ, ℤ, ◌<◌, length, arith, Bool, true, false, cond, List, [], ◌∷◌, map, Option, Some, None, String, string_bytes, string_cmp, Less, Equal, nat_cmp, refl, sym, ap, subst, ◌∙◌}
 use Rattle.std.specs.List.{AllByRecursion}
 use Rattle.std.specs.List.Sorted.{IsStrictlySortedBy}
 use Rattle.std.specs.Map.{keys_of}
@@ -12,8 +12,8 @@ use Rattle.graph_model.specs.declared.graph.Prop.{Prop}
 use Rattle.graph_model.specs.Names.{is_name}
 use Rattle.graph_model.specs.Lists.{Pairwise}
 use Rattle.graph_model.specs.Change.{NamesDiffer, KeysDiffer}
-use Rattle.call_codec.specs.Words.{name_of, read_whole, before_others}
-use Rattle.call_codec.specs.Elements.{prop_from, props_of}
+use Rattle.call_codec.specs.Words.{read_whole, before_others}
+use Rattle.call_codec.specs.Elements.{prop_from, props_of, each_once}
 
 -- a text that comes before another is another one
 differ_by_order : (a b : List ℕ) → slice_cmp nat_cmp a b ≡ Less → NamesDiffer a b
@@ -74,3 +74,14 @@ pub object_props-differ : (entries : List Entry) (props : List Prop) → props_o
 object_props-differ entries props is ordered =
     let have : HaveKeys (Some props) (key_texts entries) = subst (λ read. HaveKeys read (key_texts entries)) is (HaveKeys-object entries) in
     keys_differ props (subst (Pairwise NamesDiffer) (sym have) (object_keys-differ entries ordered))
+
+-- a name alone is in order
+pub few_once : (names : List (List ℕ)) → length names < 2 → names ≡ each_once names
+few_once [] few = refl
+few_once (name ∷ []) few = refl
+few_once (name ∷ other ∷ names) few = absurd (omega arith)
+
+pub few_differ : (names : List (List ℕ)) → length names < 2 → Pairwise NamesDiffer names
+few_differ [] few = tt
+few_differ (name ∷ []) few = (tt, tt)
+few_differ (name ∷ other ∷ names) few = absurd (omega arith)

@@ -4,7 +4,7 @@ use Rattle.std.proofs.lemmas.Bool.{false≢true}
 use Rattle.std.proofs.lemmas.List.Concat.{flat_map-append}
 use Rattle.std.specs.Prelude.{◌||◌}
 use Rattle.std.specs.List.{list_any, flat_map}
-use Rattle.call_codec.specs.Lines.{Item, is_lf, onto_first, asked_by_line, whole_lines, rest_of, line_items}
+use Rattle.call_codec.specs.Lines.{Item, is_lf, onto_first, asked_by_line, whole_lines, rest_of}
 use Rattle.call_codec.specs.LineLaws.{FirstLineIsCut, LastLineWaits, PiecesAreJoined, RestsAreJoined}
 
 both_false : (a b : Bool) → (a || b) ≡ false → (a ≡ false) × (b ≡ false)

@@ -1,7 +1,7 @@
 -- What holds of lines, as statements that laws prove.
 use Rattle.std.specs.Prelude.{◌≡◌, ℕ, Bool, true, false, List, [], ◌∷◌, ◌++◌}
 use Rattle.std.specs.List.{list_any}
-use Rattle.call_codec.specs.Lines.{is_lf, asked_by_line, whole_lines, rest_of, line_items}
+use Rattle.call_codec.specs.Lines.{is_lf, asked_by_line, rest_of, line_items}
 
 -- the first line is cut off at its LF
 abbrev pub FirstLineIsCut : Type 0

@@ -2,7 +2,7 @@
 ghost use Rattle.std.specs.Prelude.{◌≡◌, Some, None, IfOk, IfErr};
 ghost use Rattle.serde_json.specs.View.{view};
 ghost use Rattle.call_codec.specs.Faults.{IfWrong};
-ghost use Rattle.call_codec.specs.Words.{is_star, chosen_of, chosen_items, choice_of};
+ghost use Rattle.call_codec.specs.Words.{chosen_of, chosen_items, choice_of};
 
 use crate::fault::Fault;
 use crate::form::{Form, read_items};

@@ -70,6 +70,9 @@ fn each_once(alloc: Global, names: List<Name>) -> Result<List<Name>, Mem>
     ensures once { IfOk result (λ ordered. ordered ≡ each_once names) }
     ensures formed { IfOk result (λ ordered. Pairwise NamesDiffer ordered) }
 {
+    if names.len() < 2 {
+        return Ok(names);
+    }
     let mut set = BTreeSet::new(alloc);
     for name in names.into_vec() {
         set.insert(name)?;

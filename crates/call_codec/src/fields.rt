@@ -1,5 +1,5 @@
 // Putting pieces of JSON behind a text. Names, tags and our own words need no escapes.
-ghost use Rattle.std.specs.Prelude.{◌≡◌, ◌++◌, OnOk, codes, decimal};
+ghost use Rattle.std.specs.Prelude.{◌≡◌, ◌++◌, OnOk, decimal};
 ghost use Rattle.std.specs.Fmt.{signed_decimal};
 ghost use Rattle.call_codec.specs.Answers.{first_field, field_name, number_field, whole_field, text_field};
 

@@ -1,5 +1,5 @@
 // Laws of the definitions, each the contract of a function that does nothing.
-ghost use Rattle.std.specs.Prelude.{◌≡◌, [], ◌∷◌, None, Some, codes, pos, negsuc, true, false};
+ghost use Rattle.std.specs.Prelude.{◌≡◌, [], ◌∷◌, None, codes, pos, negsuc, true, false};
 ghost use Rattle.graph_model.specs.declared.change.Change.TheVariants as change;
 ghost use Rattle.graph_model.specs.declared.change.ChangeReply.TheVariants as answer;
 ghost use Rattle.graph_model.specs.SmallStore.{make_small_store};

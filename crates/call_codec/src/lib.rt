@@ -1,4 +1,10 @@
-//! A line of JSON as a call, and a reply as the text of an answer.
+//! A line of JSON as a user's call, and a reply as the text of an answer, each exactly.
+//!
+//! `specs/Answers` says what the text of a reply is. `specs/Lines` says what a line asks and which lines are whole, over the
+//! table of procedures in `specs/Calls` and the forms of values in `specs/Words` and `specs/Elements`; each later procedure
+//! adds a case to them. A call that is read is well formed: labels and keys are distinct, and ends name nodes of the call.
+//! Memory is taken for a line's JSON, which is read once, for the call and for the text of an answer. Whether ids live, and
+//! the events that perform a call, are left to the desk; reading lines from a source and writing answers to the shell.
 #![tactic(auto)]
 
 mod answer;
@@ -15,6 +21,8 @@ mod objects;
 mod procedure;
 mod refused;
 mod single;
+#[cfg(test)]
+mod tests;
 mod words;
 
 pub use answer::answer_text;

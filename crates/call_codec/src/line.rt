@@ -1,12 +1,11 @@
 // What one line of JSON asks.
 ghost use Rattle.std.specs.Prelude.{◌≡◌, ◌≤◌, length, Ok, Err, Some, None, IfOk, IfErr, codes};
-ghost use Rattle.std.specs.List.{list_all};
 ghost use Rattle.serde_json.specs.View.{view};
 ghost use Rattle.serde_json.specs.Find.{as_str};
 ghost use Rattle.graph_model.specs.Refusals.{UnlessMem};
 ghost use Rattle.desk_model.specs.Script.{IsFormedCall};
 ghost use Rattle.call_codec.specs.Calls.{required};
-ghost use Rattle.call_codec.specs.Lines.{Calls, Refuses, is_blank_byte, is_blank, json_of, args_of, known_call, procedure_call, said_call, line_item};
+ghost use Rattle.call_codec.specs.Lines.{Calls, Refuses, is_blank_byte, is_blank, json_of, known_call, procedure_call, said_call, line_item};
 
 use crate::arguments::{required, wrong_argument};
 use crate::calls::call_of;

@@ -1,4 +1,4 @@
-use Rattle.std.proofs.Common.{◌≡◌, ◌∷◌, [], ◌++◌, Some, string_bytes, ap, sym, ◌∙◌, rules}
+use Rattle.std.proofs.Common.{◌≡◌, Some, string_bytes, ap, sym, ◌∙◌, rules}
 use Rattle.serde_json.specs.View.{view, members_view}
 use Rattle.call_codec.specs.Words.{name_of, read_whole, before_others}
 use Rattle.call_codec.specs.Elements.{prop_from, props_of}
