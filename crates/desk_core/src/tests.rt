@@ -116,18 +116,34 @@ fn import_nothing(
     Ok(())
 }
 
+// What an import of this node is answered with.
+fn import_one(
+    desk: &mut Desk<MemKeeper>,
+    alloc: Global,
+    user: &str,
+    id: &str,
+) -> Result<Seen, Fail> {
+    let node = make_one(alloc, 5)?;
+    import(desk, alloc, user, id, node)
+}
+
+// A new id is refused, a kept one is answered as it was, and another user's id is new.
+fn import_more(rt: &impl Abort, desk: &mut Desk<MemKeeper>, alloc: Global) -> Result<(), Fail> {
+    assert_eq!(rt;
+        import_one(desk, alloc, "alice", "more")?,
+        Seen::Spent(65_536)
+    );
+    assert_eq!(rt; import_one(desk, alloc, "alice", "7")?, Seen::Made(0));
+    assert_eq!(rt; import_one(desk, alloc, "bob", "more")?, Seen::Made(1));
+    Ok(())
+}
+
 #[test]
 fn keeps_so_many_answers_of_imports(rt: HostRuntime) -> Result<(), Fail> {
     let alloc = rt.alloc();
     let mut desk = new_desk(alloc, Vec::new(alloc))?;
     import_nothing(&rt, &mut desk, alloc, 65_536)?;
-    let more = import(&mut desk, alloc, "alice", "more", make_nothing(alloc))?;
-    assert_eq!(rt; more, Seen::Spent(65_536));
-    let again = import(&mut desk, alloc, "alice", "7", make_one(alloc, 1)?)?;
-    assert_eq!(rt; again, Seen::Made(0));
-    let other = import(&mut desk, alloc, "bob", "more", make_nothing(alloc))?;
-    assert_eq!(rt; other, Seen::Made(0));
-    Ok(())
+    import_more(&rt, &mut desk, alloc)
 }
 
 // A node is imported, and imported again under the same id.
@@ -137,34 +153,40 @@ fn import_twice(
     number: u64,
 ) -> Result<(Seen, Seen), Fail> {
     let id = number.to_string(alloc)?;
-    let first = import(desk, alloc, "alice", id.as_str(), make_one(alloc, 5)?)?;
-    let again = import(desk, alloc, "alice", id.as_str(), make_one(alloc, 5)?)?;
+    let first = import_one(desk, alloc, "alice", id.as_str())?;
+    let again = import_one(desk, alloc, "alice", id.as_str())?;
     Ok((first, again))
 }
 
-// Three nodes are imported twice each; the commit of this number fails.
-fn run_script(rt: &impl Abort, alloc: Global, failing: u64) -> Result<(), Fail> {
-    let mut desk = new_desk(alloc, vec![in alloc; failing]?)?;
+// Three nodes are imported twice each, and the commit of this number fails; then the nodes' values are read.
+fn import_three(
+    rt: &impl Abort,
+    desk: &mut Desk<MemKeeper>,
+    alloc: Global,
+    failing: u64,
+) -> Result<(), Fail> {
     for number in 1..4u64 {
-        let first = if number == failing {
-            Seen::Fault(0)
-        } else {
-            Seen::Made(1)
-        };
-        assert_eq!(rt;
-            import_twice(&mut desk, alloc, number)?,
-            (first, Seen::Made(1))
-        );
+        let (first, again) = import_twice(desk, alloc, number)?;
+        assert_eq!(rt; first == Seen::Fault(0), number == failing);
+        assert_eq!(rt; again, Seen::Made(1));
     }
-    assert_eq!(rt; values(&mut desk, alloc)?.as_slice(), [5, 5, 5].as_slice());
-    assert_eq!(rt; desk.end().faults(), u64::from(failing < 4));
+    let stored = values(desk, alloc)?;
+    assert_eq!(rt; stored.as_slice(), [5, 5, 5].as_slice());
     Ok(())
+}
+
+// How many commits failed, where the one of this number fails.
+fn run_script(rt: &impl Abort, alloc: Global, failing: u64) -> Result<u64, Fail> {
+    let mut desk = new_desk(alloc, vec![in alloc; failing]?)?;
+    import_three(rt, &mut desk, alloc, failing)?;
+    Ok(desk.end().faults())
 }
 
 #[test]
 fn failing_commit_can_be_sent_again(rt: HostRuntime) -> Result<(), Fail> {
-    for failing in 1..5u64 {
-        run_script(&rt, rt.alloc(), failing)?;
-    }
+    let alloc = rt.alloc();
+    assert_eq!(rt; run_script(&rt, alloc, 1)?, 1);
+    assert_eq!(rt; run_script(&rt, alloc, 3)?, 1);
+    assert_eq!(rt; run_script(&rt, alloc, 4)?, 0);
     Ok(())
 }
