@@ -15,7 +15,7 @@ Appends-more (Some x) (Some y) None xs ys first second = absurd second
 Appends-more (Some x) (Some y) (Some z) xs ys first second = second ∙ ap (λ s. s ++ ys) first ∙ append_assoc x xs ys
 
 -- nothing was taken
-Appends-nothing : (a : Option (List ℕ)) → Appends a a []
+pub Appends-nothing : (a : Option (List ℕ)) → Appends a a []
 Appends-nothing None = tt
 Appends-nothing (Some x) = sym (append-nil x)
 

@@ -11,3 +11,6 @@ pub mod Numbers
 pub mod ReadArcs
 pub mod RowLines
 pub mod Acceptance
+pub mod ServingLemmas
+pub mod PieceLemmas
+pub mod TurnLemmas

@@ -4,3 +4,4 @@ pub mod OnceText
 pub mod Printing
 pub mod Reading
 pub mod Status
+pub mod Serving

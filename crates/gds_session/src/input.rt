@@ -21,7 +21,7 @@ pub(crate) enum ReadStop {
 }
 
 // Reads once, at most as many bytes as `piece` holds, puts them behind those that are there, and answers how many came.
-fn read_piece<S: Source>(
+pub(crate) fn read_piece<S: Source>(
     source: &mut S,
     piece: &mut [u8],
     bytes: &mut Vec<u8>,
@@ -47,7 +47,7 @@ fn read_piece<S: Source>(
 }
 
 // Room for one piece.
-fn make_piece(alloc: Global) -> Result<Vec<u8>, AllocError>
+pub(crate) fn make_piece(alloc: Global) -> Result<Vec<u8>, AllocError>
     ensures { IfOk result (λ piece. vec_len piece ≡ PIECE) }
 {
     vec![in alloc; 0u8; PIECE]
@@ -85,7 +85,7 @@ pub(crate) fn read_to_end<S: Source>(
 }
 
 // How many bytes to ask for where so many are left.
-fn room_for(left: u64) -> usize
+pub(crate) fn room_for(left: u64) -> usize
     requires { 0 < left }
     ensures some { 0 < result }
     ensures piece { result ≤ PIECE }

@@ -46,7 +46,7 @@ impl<T: Drop> From<AllocFailed<T>> for InputRefusal {
 }
 
 // How many bytes stand before the first one like this, or how many there are.
-fn place_of(byte: u8, text: &[u8]) -> usize
+pub(crate) fn place_of(byte: u8, text: &[u8]) -> usize
     ensures place { result ≡ position_or_len (is_byte byte) text.now }
     ensures bound { result ≤ length text.now }
 {

@@ -190,10 +190,20 @@ fn reports_each_end(rt: HostRuntime) -> Result<(), Fail> {
 
 // A sink that takes everything, and counts how often it is flushed or fails to be.
 #[derive(Drop)]
-struct Flushed {
+pub(crate) struct Flushed {
     fails: bool,
-    flushes: u64,
+    pub(crate) flushes: u64,
     faults: u64,
+}
+
+impl Flushed {
+    pub(crate) fn new() -> Flushed {
+        Flushed {
+            fails: false,
+            flushes: 0,
+            faults: 0,
+        }
+    }
 }
 
 impl Sink for Flushed {

@@ -1,0 +1,357 @@
+-- Items that are answered one after another.
+use Rattle.std.proofs.Common.{◌≡◌, ◌≢◌, ◌⊎◌, inl, inr, ℕ, ◌+◌, ◌-◌, ◌^◌, ◌<◌, ◌≤◌, min, Bool, true, false, cond, List, [], ◌∷◌, ◌++◌, length, Option, Some, None, refl, sym, ap, ◌∙◌, subst, ⊎_elim, arith, append_assoc, append-nil, length-append}
+use mathlib.Core.Path.{fun_ext}
+use Rattle.std.specs.Prelude.{IsTrue, nat_lt}
+use Rattle.std.specs.List.{AllByRecursion, count_by, sum_by}
+use Rattle.std.proofs.lemmas.List.Sums.{sum_by-append, sum_by-cons}
+use Rattle.std.specs.Str.{bytes_eq}
+use Rattle.std.specs.Cmp.Lexicographic.{bytes_decides}
+use Rattle.std.proofs.lemmas.Bool.{cases_Bool, true≢false, lt-ltb, le-ltb}
+use Rattle.std.specs.Io.KnownBytes.{Appends}
+use Rattle.std.specs.Io.KnownBytes.{Keeps}
+use Rattle.std.proofs.lemmas.List.{take-append-drop}
+use Rattle.std.specs.Prelude.{take, drop}
+use Rattle.std.specs.Prelude.{Result, Ok, Err, OnOk, IfErr}
+use Rattle.std.specs.Result.{is_err}
+use Rattle.gds_causes.specs.Faults.{Rose}
+use Rattle.gds_causes.specs.Front.{AppendsFront}
+use Rattle.graph_model.specs.declared.refusal.Refusal.{Refusal}
+use Rattle.graph_model.specs.declared.refusal.Refusal.TheVariants as refusal
+use Rattle.graph_model.specs.declared.refusal.LongPart.TheVariants as long
+use Rattle.graph_model.specs.Refusals.{UnlessMem}
+use Rattle.desk_model.specs.declared.asked.Event.{Event}
+use Rattle.desk_model.specs.declared.asked.Event.TheVariants as event
+use Rattle.desk_model.specs.declared.call.Call.{Call}
+use Rattle.desk_model.specs.declared.call.Call.TheVariants as call
+use Rattle.desk_model.specs.State.{State, Part, UserLists, part_of, with_part, lists_with}
+use Rattle.desk_model.specs.Replies.{PlainReply, Refused}
+use Rattle.desk_model.specs.Step.{IsStep, IsReady, step, mark_of, is_fault}
+use Rattle.desk_model.specs.History.{HistoryEntry, AreLegal, IsLegalEntry, Permits, own_entries, state_after, state_after_entry}
+use Rattle.desk_model.specs.Script.{IsScript, IsFormedCall}
+use Rattle.call_codec.specs.Answers.{line_answer}
+use Rattle.call_codec.specs.Lines.{Item, Calls, Refuses, line_item, is_blank, asked_by_line, most_line_bytes}
+use Rattle.gds_session.specs.declared.degrees.WriteStop.{WriteStop}
+use Rattle.gds_session.specs.declared.degrees.WriteStop.TheVariants as stop
+use Rattle.gds_session.specs.Serving.{IsAnswered, AreAnswered, IsFront, IsBegun, is_flagged, Counts, IsOfShell, Leads, Moment, moment, Performs, Serves, IsHeldBack, TookFront, Halts, IsPending, asks_with, event_for}
+use Rattle.gds_session.proofs.Bytes.{Appends-more, Appends-nothing}
+
+-- ---- entries
+
+AreLegal-append : (xs ys : List HistoryEntry) (state : State) (earlier : List HistoryEntry) → AreLegal state earlier xs → ((before : List HistoryEntry) → AreLegal (state_after state xs) before ys) → AreLegal state earlier (xs ++ ys)
+AreLegal-append [] ys state earlier legal rest = rest earlier
+AreLegal-append (x ∷ xs) ys state earlier legal rest =
+    (legal.0, AreLegal-append xs ys (state_after_entry state x) (earlier ++ x ∷ []) legal.1 rest)
+
+state_after-append : (xs ys : List HistoryEntry) (state : State) → state_after state (xs ++ ys) ≡ state_after (state_after state xs) ys
+state_after-append [] ys state = refl
+state_after-append (x ∷ xs) ys state = state_after-append xs ys (state_after_entry state x)
+
+all-append : {A : Type 0} (P : A → Type 0) (xs ys : List A) → AllByRecursion P xs → AllByRecursion P ys → AllByRecursion P (xs ++ ys)
+all-append P [] ys first second = second
+all-append P (x ∷ xs) ys first second = (first.0, all-append P xs ys first.1 second)
+
+-- an entry counts as one where it is flagged
+abbrev flag : HistoryEntry → ℕ
+flag entry = cond (is_flagged entry) 1 0
+
+counts-append : (xs ys : List HistoryEntry) (f g h : ℕ) → Counts xs f g → Counts ys g h → Counts (xs ++ ys) f h
+counts-append xs ys f g h first second = omega (arith, sum_by-append flag xs ys, first, second)
+
+pub leads_nowhere : (state : State) (faults : ℕ) → Leads [] state state faults faults
+leads_nowhere state faults = record { legal = λ earlier. tt; own = tt; state = refl; counted = omega arith }
+
+pub leads_on : (xs ys : List HistoryEntry) (a b c : State) (f g h : ℕ) → Leads xs a b f g → Leads ys b c g h → Leads (xs ++ ys) a c f h
+leads_on xs ys a b c f g h first second = record {
+  legal = λ earlier. AreLegal-append xs ys a earlier (first.legal earlier) (λ before. let P : State → Type 0 = λ s. AreLegal s before ys in subst P first.state (second.legal before));
+  own = all-append IsOfShell xs ys first.own second.own;
+  state = second.state ∙ ap (λ s. state_after s ys) first.state ∙ sym (state_after-append xs ys a);
+  counted = counts-append xs ys f g h first.counted second.counted;
+}
+
+-- ---- answers
+
+pub answered_on : (items others : List Item) (xs ys : List HistoryEntry) (text more : List ℕ) → AreAnswered items xs text → AreAnswered others ys more → AreAnswered (items ++ others) (xs ++ ys) (text ++ more)
+answered_on [] others xs ys text more first second = rw (first.0, first.1) second
+answered_on (item ∷ items) others xs ys text more first second = (
+  first.0,
+  first.1 ++ ys,
+  first.2,
+  first.3 ++ more,
+  ap (λ e. e ++ ys) first.4 ∙ append_assoc first.0 first.1 ys,
+  first.5,
+  ap (λ t. t ++ more) first.6 ∙ append_assoc (line_answer first.2) first.3 more,
+  answered_on items others first.1 ys first.3 more first.7 second,
+)
+
+pub begun_on : (left more : List Item) (begun : List HistoryEntry) (front : List ℕ) → IsBegun left begun front → IsBegun (left ++ more) begun front
+begun_on [] [] begun front h = h
+begun_on [] (item ∷ more) begun front h = inl h
+begun_on (item ∷ left) more begun front h = h
+
+-- ---- serving
+
+pub serves_nothing : (now : Moment) → Serves [] now now
+serves_nothing now = record {
+  entries = [];
+  written = [];
+  answered = (refl, refl);
+  leads = leads_nowhere now.state now.faults;
+  appended = Appends-nothing now.taken;
+}
+
+pub serves_on : (items others : List Item) (old mid new : Moment) → Serves items old mid → Serves others mid new → Serves (items ++ others) old new
+serves_on items others old mid new first second = record {
+  entries = first.entries ++ second.entries;
+  written = first.written ++ second.written;
+  answered = answered_on items others first.entries second.entries first.written second.written first.answered second.answered;
+  leads = leads_on first.entries second.entries old.state mid.state new.state old.faults mid.faults new.faults first.leads second.leads;
+  appended = Appends-more old.taken mid.taken new.taken first.written second.written first.appended second.appended;
+}
+
+pub halts_after : (why : WriteStop) (items others : List Item) (old mid new : Moment) → Serves items old mid → Halts why others mid new → Halts why (items ++ others) old new
+halts_after why items others old mid new first second = record {
+  done = items ++ second.done;
+  left = second.left;
+  entries = first.entries ++ second.entries;
+  begun = second.begun;
+  written = first.written ++ second.written;
+  front = second.front;
+  cut = ap (λ t. items ++ t) second.cut ∙ sym (append_assoc items second.done second.left);
+  answered = answered_on items second.done first.entries second.entries first.written second.written first.answered second.answered;
+  next = second.next;
+  held = second.held;
+  leads = rw (append_assoc first.entries second.entries second.begun) (leads_on first.entries (second.entries ++ second.begun) old.state mid.state new.state old.faults mid.faults new.faults first.leads second.leads);
+  appended = rw (append_assoc first.written second.written second.front) (Appends-more old.taken mid.taken new.taken first.written (second.written ++ second.front) first.appended second.appended);
+}
+
+pub halts_before : (why : WriteStop) (items others : List Item) (old new : Moment) → Halts why items old new → Halts why (items ++ others) old new
+halts_before why items others old new h = record {
+  done = h.done;
+  left = h.left ++ others;
+  entries = h.entries;
+  begun = h.begun;
+  written = h.written;
+  front = h.front;
+  cut = ap (λ t. t ++ others) h.cut ∙ append_assoc h.done h.left others;
+  answered = h.answered;
+  next = begun_on h.left others h.begun h.front h.next;
+  held = h.held;
+  leads = h.leads;
+  appended = h.appended;
+}
+
+pub halts_unbegun : (items : List Item) (old new : Moment) → Serves items old new → Halts stop.OutOfMemory items old new
+halts_unbegun items old new s = record {
+  done = items;
+  left = [];
+  entries = s.entries;
+  begun = [];
+  written = s.written;
+  front = [];
+  cut = sym (append-nil items);
+  answered = s.answered;
+  next = (refl, refl);
+  held = refl;
+  leads = rw (append-nil s.entries) s.leads;
+  appended = rw (append-nil s.written) s.appended;
+}
+
+-- ---- one line
+
+pub serves_one : (item : Item) (reply : PlainReply) (a b : State) (f g : ℕ) (s t : Option (List ℕ)) → Performs item reply a b f g → Appends s t (line_answer reply) → Serves (item ∷ []) (moment a f s) (moment b g t)
+serves_one item reply a b f g s t p appended = record {
+  entries = p.entries;
+  written = line_answer reply;
+  answered = (p.entries, [], reply, [], sym (append-nil p.entries), p.answered, sym (append-nil (line_answer reply)), (refl, refl));
+  leads = p.leads;
+  appended = appended;
+}
+
+pub halts_one : (why : WriteStop) (item : Item) (reply : PlainReply) (a b : State) (f g : ℕ) (s t : Option (List ℕ)) → Performs item reply a b f g → TookFront why s t (line_answer reply) → Halts why (item ∷ []) (moment a f s) (moment b g t)
+halts_one why item reply a b f g s t p took = record {
+  done = [];
+  left = item ∷ [];
+  entries = [];
+  begun = p.entries;
+  written = [];
+  front = took.0;
+  cut = refl;
+  answered = (refl, refl);
+  next = inr (reply, p.answered, took.1);
+  held = took.2;
+  leads = p.leads;
+  appended = took.3;
+}
+
+-- ---- the desk's step
+
+-- an entry of the shell
+abbrev pub shell_entry : List ℕ → Event → PlainReply → HistoryEntry
+shell_entry user asked reply = record { pass = 0; user = user; event = asked; refused = is_fault (mark_of reply); reply = reply }
+
+permits : (own : List HistoryEntry) (user : List ℕ) (asked : Event) (part : Part) → IsReady asked part → Permits own user asked
+permits own user (event.Change import change) part ready = ready
+permits own user (event.StoreRows key labels) part ready = ready
+
+same_state : (s t : State) → s.graph ≡ t.graph → s.lists ≡ t.lists → s ≡ t
+same_state s t graphs lists =
+    ap (λ g. let r : State = record { graph = g; lists = s.lists } in r) graphs
+    ∙ ap (λ l. let r : State = record { graph = t.graph; lists = l } in r) lists
+
+own_lists : (a b : State) (user : List ℕ) (part : Part) → part_of b user ≡ part → ((other : List ℕ) → other ≢ user → b.lists other ≡ a.lists other) → (other : List ℕ) → b.lists other ≡ lists_with a.lists user part.lists other
+own_lists a b user part left others other =
+    ⊎_elim
+    (λ (same : bytes_eq other user ≡ true).
+    rw same (ap b.lists ((bytes_decides other user).0 same) ∙ ap (λ p. p.lists) left))
+    (λ (differs : bytes_eq other user ≡ false).
+    rw differs (others other (λ is. true≢false (sym ((bytes_decides other user).1 is) ∙ differs))))
+    (cases_Bool (bytes_eq other user))
+
+state_is : (a b : State) (user : List ℕ) (part : Part) → part_of b user ≡ part → ((other : List ℕ) → other ≢ user → b.lists other ≡ a.lists other) → b ≡ with_part a user part
+state_is a b user part left others =
+    same_state b (with_part a user part) (ap (λ p. p.graph) left) (fun_ext (own_lists a b user part left others))
+
+counts_one : (entry : HistoryEntry) (f g : ℕ) → (IsTrue entry.refused → Rose f g) → f ≤ g → Counts (entry ∷ []) f g
+counts_one entry f g rose later =
+    ⊎_elim
+    (λ (yes : entry.refused ≡ true). let r = rose yes in let one : sum_by flag (entry ∷ []) ≡ 1 = rw sum_by-cons (rw yes refl) in omega (arith, r, one))
+    (λ (no : entry.refused ≡ false). let none : sum_by flag (entry ∷ []) ≡ 0 = rw sum_by-cons (rw no refl) in omega (arith, none))
+    (cases_Bool entry.refused)
+
+-- what the desk answers leads on by one entry
+pub applied : (user : List ℕ) (asked : Event) (reply : PlainReply) (a b : State) (f g : ℕ) → IsReady asked (part_of a user) → IsStep asked (part_of a user) reply (part_of b user) → ((other : List ℕ) → other ≢ user → b.lists other ≡ a.lists other) → (IsTrue (is_fault (mark_of reply)) → Rose f g) → f ≤ g → Leads (shell_entry user asked reply ∷ []) a b f g
+applied user asked reply a b f g ready is others rose later = record {
+  legal = λ earlier. (
+    record {
+      permitted = permits (own_entries 0 earlier) user asked (part_of a user) ready;
+      mark = is.mark;
+      reply = is.answer;
+      flag = refl;
+    },
+    tt,
+  );
+  own = (refl, tt);
+  state = state_is a b user (step (mark_of reply) asked (part_of a user)).part is.left others;
+  counted = counts_one (shell_entry user asked reply) f g rose later;
+}
+
+-- it performs the call
+pub is_script : (user : List ℕ) (asked : Call) (reply : PlainReply) → IsScript user asked (shell_entry user (event_for asked) reply ∷ []) reply
+is_script user (call.Create import change) reply = record { user_is = refl; event_is = refl; reply_is = refl }
+is_script user (call.Alter change) reply = record { user_is = refl; event_is = refl; reply_is = refl }
+is_script user (call.StoreRows key labels) reply = record { user_is = refl; event_is = refl; reply_is = refl }
+
+-- ---- refusals
+
+no_memory : (item : Item) → IsAnswered item [] (Refused refusal.Mem)
+no_memory (Calls user (call.Create import change)) = refl
+no_memory (Calls user (call.Alter change)) = refl
+no_memory (Calls user (call.StoreRows key labels)) = refl
+no_memory (Refuses why) = (refl, inr refl)
+
+refuses : (why : Refusal) (item : Item) → item ≡ Refuses why → IsAnswered item [] (Refused why)
+refuses why item is = rw is (refl, inl refl)
+
+answered_refusal : (why : Refusal) (item : Item) → UnlessMem why (item ≡ Refuses why) → IsAnswered item [] (Refused why)
+answered_refusal refusal.Mem item is = no_memory item
+answered_refusal why item is = refuses why item is
+
+pub performs_refusal : (why : Refusal) (item : Item) (state : State) (faults : ℕ) → UnlessMem why (item ≡ Refuses why) → Performs item (Refused why) state state faults faults
+performs_refusal why item state faults is =
+    record { entries = []; answered = answered_refusal why item is; leads = leads_nowhere state faults }
+
+-- ---- what is kept of a line
+
+pub asks_is : (too_long : Bool) (kept waiting tail : List ℕ) → IsPending too_long kept waiting → asks_with too_long kept tail ≡ asked_by_line (waiting ++ tail)
+asks_is true kept waiting tail pending =
+    let over : nat_lt most_line_bytes (length (waiting ++ tail)) ≡ true = lt-ltb most_line_bytes (length (waiting ++ tail)) (omega (arith, length-append waiting tail)) in
+    rw over refl
+asks_is false kept waiting tail pending = ap (λ k. asked_by_line (k ++ tail)) pending
+
+-- it is too long where it was too long, or where its tail made it so
+pub long_asks : (was_long is_long : Bool) (kept keeps tail : List ℕ) → ((waiting : List ℕ) → IsPending was_long kept waiting → IsPending is_long keeps (waiting ++ tail)) → is_long ≡ true → asks_with was_long kept tail ≡ Refuses (refusal.TooLong long.Line most_line_bytes) ∷ []
+long_asks true is_long kept keeps tail pending is = refl
+long_asks false is_long kept keeps tail pending is =
+    let P : Bool → Type 0 = λ b. IsPending b keeps (kept ++ tail) in
+    let more : most_line_bytes < length (kept ++ tail) = subst P is (pending kept refl) in
+    let over : nat_lt most_line_bytes (length (kept ++ tail)) ≡ true = lt-ltb most_line_bytes (length (kept ++ tail)) more in
+    rw over refl
+
+-- else all of it is kept
+pub short_asks : (was_long is_long : Bool) (kept keeps tail : List ℕ) → ((waiting : List ℕ) → IsPending was_long kept waiting → IsPending is_long keeps (waiting ++ tail)) → (was_long ≡ true → is_long ≡ true) → is_long ≡ false → asks_with was_long kept tail ≡ asked_by_line keeps
+short_asks true is_long kept keeps tail pending stays is = absurd (true≢false (sym (stays refl) ∙ is))
+short_asks false is_long kept keeps tail pending stays is =
+    let P : Bool → Type 0 = λ b. IsPending b keeps (kept ++ tail) in
+    let all : keeps ≡ kept ++ tail = subst P is (pending kept refl) in
+    ap asked_by_line (sym all)
+
+-- a line of blanks asks nothing, and another one item
+pub blank_asks : (line : List ℕ) → length line ≤ most_line_bytes → is_blank line ≡ true → asked_by_line line ≡ []
+blank_asks line within blank =
+    let short : nat_lt most_line_bytes (length line) ≡ false = le-ltb most_line_bytes (length line) within in
+    rw (short, blank) refl
+
+pub line_asks : (line : List ℕ) → length line ≤ most_line_bytes → is_blank line ≡ false → asked_by_line line ≡ line_item line ∷ []
+line_asks line within dark =
+    let short : nat_lt most_line_bytes (length line) ≡ false = le-ltb most_line_bytes (length line) within in
+    rw (short, dark) refl
+
+-- ---- what the desk did
+
+ready : (asked : Call) (part : Part) → IsFormedCall asked → IsReady (event_for asked) part
+ready (call.Create import change) part formed = formed
+ready (call.Alter change) part formed = formed
+ready (call.StoreRows key labels) part formed = formed
+
+pub performs_call : (item : Item) (user : List ℕ) (asked : Call) (performed : Event) (reply : PlainReply) (a b : State) (f g : ℕ) → item ≡ Calls user asked → performed ≡ event_for asked → IsFormedCall asked → IsStep performed (part_of a user) reply (part_of b user) → ((other : List ℕ) → other ≢ user → b.lists other ≡ a.lists other) → (IsTrue (is_fault (mark_of reply)) → Rose f g) → f ≤ g → Performs item reply a b f g
+performs_call item user asked performed reply a b f g item_is event_is formed is others rose later =
+    let P : Event → Type 0 = λ e. IsStep e (part_of a user) reply (part_of b user) in
+    let stepped = subst P event_is is in
+    record {
+      entries = shell_entry user (event_for asked) reply ∷ [];
+      answered = rw item_is (is_script user asked reply);
+      leads = applied user (event_for asked) reply a b f g (ready asked (part_of a user) formed) stepped others rose later;
+    }
+
+-- ---- what a sink took
+
+pub took_front : (before after : Option (List ℕ)) (text : List ℕ) → AppendsFront before after text → TookFront stop.Fault before after text
+took_front before after text h = (take h.0 text, (drop h.0 text, sym (take-append-drop h.0 text)), tt, h.2)
+
+keeps_on : (a b c : Option (List ℕ)) (text : List ℕ) → Appends a b text → Keeps b c → Appends a c text
+keeps_on None b c text appended kept = tt
+keeps_on (Some x) None c text appended kept = absurd appended
+keeps_on (Some x) (Some y) None text appended kept = absurd kept
+keeps_on (Some x) (Some y) (Some z) text appended kept = kept ∙ appended
+
+-- all of it, also where it can't be handed on
+pub took_all : (a b c : Option (List ℕ)) (text : List ℕ) → Appends a b text → Keeps b c → TookFront stop.Fault a c text
+took_all a b c text appended kept = (text, ([], sym (append-nil text)), tt, keeps_on a b c text appended kept)
+
+pub took_nothing : (a : Option (List ℕ)) (text : List ℕ) → TookFront stop.OutOfMemory a a text
+took_nothing a text = ([], (text, refl), refl, Appends-nothing a)
+
+-- ---- clauses on results
+
+pub on_ok : (r : Result (Unit {0}) WriteStop) (P Q : Type 0) → (P → Q) → OnOk r P → OnOk r Q
+on_ok (Ok done) P Q then h = then h
+on_ok (Err why) P Q then h = tt
+
+pub if_err : (r : Result (Unit {0}) WriteStop) (P Q : WriteStop → Type 0) → ((why : WriteStop) → P why → Q why) → IfErr r P → IfErr r Q
+if_err (Ok done) P Q then h = tt
+if_err (Err why) P Q then h = then why h
+
+-- what can't be begun for want of memory
+pub halts_at_once : (items : List Item) (now : Moment) → Halts stop.OutOfMemory items now now
+halts_at_once items now = halts_before stop.OutOfMemory [] items now now (halts_unbegun [] now now (serves_nothing now))
+
+pub ok_when : {T E : Type 0} (r : Result T E) (P : Type 0) → is_err r ≡ false → OnOk r P → P
+ok_when (Ok x) P fine h = h
+ok_when (Err e) P fine h = absurd (true≢false fine)
+
+-- what a line that is too long is refused with
+abbrev pub too_long : Refusal
+too_long = refusal.TooLong long.Line most_line_bytes
+
+pub performs_long : (reply : PlainReply) (state : State) (faults : ℕ) → reply ≡ Refused too_long → Performs (Refuses too_long) reply state state faults faults
+performs_long reply state faults is = rw is (performs_refusal too_long (Refuses too_long) state faults refl)
