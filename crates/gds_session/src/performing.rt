@@ -8,6 +8,7 @@ ghost use Rattle.gds_session.specs.Serving.{Performs, event_for};
 
 use call_codec::line_call;
 use desk_core::{Asked, Call, Desk, Event, Reply};
+use graph_model::Tag;
 use std::alloc::Global;
 use store_keeper::Keeper;
 
@@ -25,19 +26,22 @@ fn event_for(call: Call) -> Event
     }
 }
 
+/// What a user asks by a call.
+fn asked_by(user: Tag, call: Call) -> Asked
+    ensures user { result.user ≡ user }
+    ensures event { result.event ≡ event_for call }
+{
+    let event = event_for(call);
+    Asked { user, event }
+}
+
 /// Answers what a line asks, on the desk or by its refusal.
 pub(crate) fn perform<K: Keeper>(alloc: Global, desk: &mut Desk<K>, line: &[u8]) -> Reply
     requires { length line.now ≤ most_line_bytes }
     ensures { Performs (line_item line.now) (plain_reply result) (state_of desk.old) (state_of desk.new) (K.faults desk.old.keeper) (K.faults desk.new.keeper) }
 {
     match line_call(alloc, line) {
-        Ok((user, call)) => desk.apply(
-            alloc,
-            Asked {
-                user,
-                event: event_for(call),
-            },
-        ),
+        Ok((user, call)) => desk.apply(alloc, asked_by(user, call)),
         Err(why) => Reply::Refused(why),
     }
 }
