@@ -223,4 +223,4 @@ end_of_read read.OutOfMemory = end.Mem
 -- some bytes were taken, and no more than there was room for
 abbrev pub IsTaken : Turn → ℕ → Type 0
 IsTaken (turn.More n) room = (0 < n) × (n ≤ room)
-IsTaken (turn.Over done) room = Unit {0}
+IsTaken (turn.Over _) room = Unit {0}
