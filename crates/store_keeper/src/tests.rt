@@ -65,23 +65,43 @@ fn two_nodes(alloc: Global) -> Result<Change, Fail>
     })
 }
 
-// Hands a change to the keeper, and makes it on the store where it was kept.
+// Hands a change to the keeper, and makes it on the store where it was kept: whether it was.
 fn keep(
     keeper: &mut MemKeeper,
     store: &mut Store,
     alloc: Global,
     change: &Change,
-) -> Result<Result<(), KeepRefusal>, Fail>
+) -> Result<bool, Fail>
     requires same { keeper.old.graph ≡ store.old }
     requires formed { IsWellFormedChange change.now }
     ensures { keeper.new.graph ≡ store.new }
 {
     let made = store.prepare(alloc, change)?;
-    let kept = keeper.commit(alloc, change);
-    if kept.is_ok() {
+    let kept = keeper.commit(alloc, change).is_ok();
+    if kept {
         store.apply(made);
     }
     Ok(kept)
+}
+
+// Two new nodes and a relationship between them are handed to the keeper: whether they were kept.
+fn keep_two_nodes(keeper: &mut MemKeeper, store: &mut Store, alloc: Global) -> Result<bool, Fail>
+    requires { keeper.old.graph ≡ store.old }
+    ensures { keeper.new.graph ≡ store.new }
+{
+    let change = two_nodes(alloc)?;
+    keep(keeper, store, alloc, &change)
+}
+
+// A deletion of nothing is handed to the keeper: whether it was kept.
+fn keep_no_deletion(keeper: &mut MemKeeper, store: &mut Store, alloc: Global) -> Result<bool, Fail>
+    requires { keeper.old.graph ≡ store.old }
+    ensures { keeper.new.graph ≡ store.new }
+{
+    let change = Change::DeleteRels {
+        ids: List::new(alloc),
+    };
+    keep(keeper, store, alloc, &change)
 }
 
 // How many nodes and relationships a keeper has, and which node comes next.
@@ -98,15 +118,10 @@ fn counts(keeper: &mut MemKeeper, alloc: Global) -> Result<(usize, usize, u32), 
 fn run_script(rt: &impl Abort, alloc: Global, failing: u64) -> Result<(usize, usize, u32), Fail> {
     let mut keeper = MemKeeper::new(no_graph(alloc), vec![in alloc; failing]?);
     let mut store = Store::of(alloc, no_graph(alloc))?;
-    let first = keep(&mut keeper, &mut store, alloc, &two_nodes(alloc)?)?;
-    assert_eq!(rt; first.is_err(), failing == 1);
-    let delete = Change::DeleteRels {
-        ids: List::new(alloc),
-    };
-    let second = keep(&mut keeper, &mut store, alloc, &delete)?;
-    assert_eq!(rt; second.is_err(), failing == 2);
-    let third = keep(&mut keeper, &mut store, alloc, &two_nodes(alloc)?)?;
-    assert_eq!(rt; third.is_err(), failing == 3);
+    let first = keep_two_nodes(&mut keeper, &mut store, alloc)?;
+    let second = keep_no_deletion(&mut keeper, &mut store, alloc)?;
+    let third = keep_two_nodes(&mut keeper, &mut store, alloc)?;
+    assert_eq!(rt; (first, second, third), (failing != 1, failing != 2, failing != 3));
     assert_eq!(rt; keeper.faults(), u64::from(failing <= 3));
     counts(&mut keeper, alloc)
 }
