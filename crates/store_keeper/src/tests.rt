@@ -121,7 +121,10 @@ fn run_script(rt: &impl Abort, alloc: Global, failing: u64) -> Result<(usize, us
     let first = keep_two_nodes(&mut keeper, &mut store, alloc)?;
     let second = keep_no_deletion(&mut keeper, &mut store, alloc)?;
     let third = keep_two_nodes(&mut keeper, &mut store, alloc)?;
-    assert_eq!(rt; (first, second, third), (failing != 1, failing != 2, failing != 3));
+    assert_eq!(rt;
+        (first, second, third),
+        (failing != 1, failing != 2, failing != 3)
+    );
     assert_eq!(rt; keeper.faults(), u64::from(failing <= 3));
     counts(&mut keeper, alloc)
 }
