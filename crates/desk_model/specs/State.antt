@@ -1,15 +1,21 @@
 -- The state of the machine: one graph, and lists of each user.
+--   NamedGraph              a named graph of a user
+--   Capture                 what a job works on, as it was when the job began
+--   JobSpec                 what a job was asked for
+--   Job                     a job of a user
 --   UserLists               what is kept for a user
 --   Part                    the part of a user in a state: the graph, and the user's lists
 --   State                   one graph, and for each user their lists
 --   part_of state user      the part of a user
 --   with_part state user p  a state with another part for a user
 --   SameState               two states with the same graph and the same lists for each user
-use Rattle.std.specs.Prelude.{◌≡◌, ℕ, Bool, if◌then◌else◌, List, []}
+use Rattle.std.specs.Prelude.{◌≡◌, ℕ, ℤ, Bool, if◌then◌else◌, List, []}
 use Rattle.std.specs.Str.{bytes_eq}
 use Rattle.graph_model.specs.declared.graph.PropertyGraph.{PropertyGraph}
 use Rattle.graph_model.specs.declared.change.ChangeReply.{ChangeReply}
 use Rattle.graph_model.specs.Projection.{PlainProjection}
+use Rattle.projection_spec.specs.Fields.{SpecFields}
+use Rattle.desk_model.specs.declared.job.JobKind.{JobKind}
 
 -- a named graph: its name, its version and its projection
 pub record NamedGraph : Type 0 where
@@ -17,13 +23,27 @@ pub record NamedGraph : Type 0 where
   pub version : ℕ
   pub graph : PlainProjection
 
--- a job: its number, its name, whether it was asked to end, how many batches it has done and how many values they set
+-- what a job works on, as it was when the job began: the store's graph, or a named graph with the version that it had
+pub data Capture : Type 0 where
+  OfStore : PropertyGraph → Capture
+  OfGraph : ℕ → PlainProjection → Capture
+
+-- what a job was asked for: to project these entries. Each kind of work that jobs do has a variant.
+pub data JobSpec : Type 0 where
+  Native : SpecFields → JobSpec
+
+-- a job: its number, its name, its stage, what it captured and what it was asked for; whether it was asked to end, how many
+-- batches it has done and how many values they set, and the rows that it writes: none but while it is writing
 pub record Job : Type 0 where
   pub number : ℕ
   pub name : List ℕ
+  pub kind : JobKind
+  pub captured : Capture
+  pub spec : JobSpec
   pub asked : Bool
   pub batches : ℕ
   pub count : ℕ
+  pub rows : List (ℕ × ℤ)
 
 -- what is kept for a user: named graphs by ascending name, jobs by ascending number, the answers of imports by ascending
 -- id, the number of the last job and the version of the last graph

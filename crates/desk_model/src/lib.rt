@@ -9,7 +9,9 @@
 
 mod asked;
 mod call;
+mod job;
 pub mod laws;
 
 pub use asked::{Asked, Event, Reply};
 pub use call::Call;
+pub use job::JobKind;
