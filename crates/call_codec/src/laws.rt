@@ -36,6 +36,8 @@ pub fn worked_answers()
     ensures weight { answer_of (reply.Refused (Refusal.WeightOutOfRange 0 1 (negsuc 0))) ≡ codes "{\"refused\":{\"number\":18,\"code\":\"WeightOutOfRange\",\"source\":0,\"target\":1,\"weight\":-1}}" }
     ensures entity { answer_of (reply.Refused (Refusal.NoSuchEntity EntityKind.Node 9)) ≡ codes "{\"refused\":{\"number\":20,\"code\":\"NoSuchEntity\",\"kind\":\"node\",\"id\":9}}" }
     ensures full { answer_of (reply.Refused (Refusal.Full Quantity.Nodes 4194304 0)) ≡ codes "{\"refused\":{\"number\":25,\"code\":\"Full\",\"which\":\"nodes\",\"limit\":4194304,\"batches\":0}}" }
+    ensures fault { answer_of (reply.Refused (Refusal.StoreFault 0)) ≡ codes "{\"refused\":{\"number\":28,\"code\":\"StoreFault\",\"batches\":0}}" }
+    ensures memory { answer_of (reply.Refused Refusal.Mem) ≡ codes "{\"refused\":{\"number\":29,\"code\":\"Mem\"}}" }
     ensures counter { answer_of (reply.Refused (Refusal.CounterSpent Counter.Imports 65536)) ≡ codes "{\"refused\":{\"number\":30,\"code\":\"CounterSpent\",\"counter\":\"imports\",\"last\":65536}}" }
 {}
 

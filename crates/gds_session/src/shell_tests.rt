@@ -109,16 +109,18 @@ fn shell_ends_by_faults_and_budget(rt: HostRuntime) -> Result<(), Fail> {
     Ok(())
 }
 
-// A line of one byte more than a line may have, with its LF.
-fn long_line(alloc: Global) -> Result<Vec<u8>, AllocError> {
-    let mut text = vec![in alloc; b'x'; 16_777_217]?;
-    text.push(b'\n').map_err(|_| AllocError)?;
+// A line of blanks as long as a line may be, with its LF, and one that is longer by a CR.
+fn long_lines(alloc: Global) -> Result<Vec<u8>, AllocError> {
+    let mut text = vec![in alloc; b' '; 33_554_435]?;
+    text[16_777_216] = b'\n';
+    text[33_554_433] = b'\r';
+    text[33_554_434] = b'\n';
     Ok(text)
 }
 
 #[test]
 fn refuses_a_long_line_once(rt: HostRuntime) -> Result<(), Fail> {
-    let text = long_line(rt.alloc())?;
+    let text = long_lines(rt.alloc())?;
     let (end, written) = answers(rt.alloc(), &text, &[], &[], AMPLE)?;
     let answer =
         b"{\"refused\":{\"number\":2,\"code\":\"TooLong\",\"what\":\"line\",\"limit\":16777216}}\n";

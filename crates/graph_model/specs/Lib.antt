@@ -4,6 +4,7 @@ pub mod ById
 pub mod Change
 pub mod ChangeLaws
 pub mod Graph
+pub mod Known
 pub mod Lists
 pub mod Names
 pub mod Projection

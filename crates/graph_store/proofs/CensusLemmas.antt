@@ -14,7 +14,7 @@ use Rattle.graph_model.specs.declared.graph.Prop.{Prop}
 use Rattle.graph_store.specs.Slots.{slot_at, living, slot_count}
 use Rattle.graph_store.specs.Counted.{times, count_under, own_name, prop_key, rel_classes, rel_props, key_weight, IsCounted}
 use Rattle.graph_store.specs.Edits.{WeighsSame}
-use Rattle.graph_store.specs.Known.{has_type, is_under_key}
+use Rattle.graph_model.specs.Known.{has_type, is_under_key}
 use Rattle.graph_store.proofs.SlotLemmas.{sum_by-living, sum_by-ones}
 
 -- ---- some item passes a test where a sum isn't 0

@@ -4,7 +4,6 @@ pub mod Missing
 pub mod Slots
 pub mod Created
 pub mod Edits
-pub mod Known
 pub mod Counted
 pub mod Stored
 pub mod Links

@@ -1,6 +1,6 @@
 // Which labels, types and keys live elements have, told without a look at the elements.
 ghost use Rattle.std.specs.Prelude.{◌≡◌};
-ghost use Rattle.graph_store.specs.Known.{knows_label, knows_type, knows_node_key, knows_rel_key};
+ghost use Rattle.graph_model.specs.Known.{knows_label, knows_type, knows_node_key, knows_rel_key};
 
 use crate::store::{Snapshot, Store};
 use crate::tally::is_counted;

@@ -4,6 +4,8 @@ pub mod Fields
 pub mod Given
 pub mod JsonRows
 pub mod KeptArcs
+pub mod NativeProjection
+pub mod NativeRows
 pub mod Projected
 pub mod RawArcs
 pub mod Words

@@ -5,6 +5,11 @@ ghost use Rattle.graph_model.specs.declared.refusal.Refusal.TheVariants.{MixedAg
 ghost use Rattle.projection_spec.specs.KeptArcs.{kept_arcs};
 ghost use Rattle.projection_spec.specs.WorkedRows.{key_w, type_r, count_all, each_rule, small_arcs, small_kept, kept, one_arc};
 ghost use Rattle.projection_spec.specs.JsonRows.{list, fields, field, node_prop_row, node_row, rel_prop_row, rel_row, nodes_spec, nodes_refused, rels_spec, rels_refused, of_nodes, of_rels, plain, wrong, type_r_said, w_by};
+ghost use Rattle.graph_model.specs.Projection.{missing_value};
+ghost use Rattle.graph_model.specs.SmallStore.{empty_graph, small_store};
+ghost use Rattle.graph_model.specs.declared.refusal.Refusal.TheVariants.{NoSuchLabel, NoSuchType, NoSuchProperty, SumOutOfRange};
+ghost use Rattle.projection_spec.specs.NativeProjection.{projected};
+ghost use Rattle.projection_spec.specs.NativeRows.{counts, of_all, small_counts, labelled, k_from_b, labelled_nodes, rel, sum_counts, of_type};
 
 use crate::entries::Rule;
 use graph_model::Orientation;
@@ -28,6 +33,25 @@ pub fn worked_rows()
     ensures great { kept_arcs (type_r Orientation.Natural true (key_w (codes "w") Rule.Sum ∷ []))
         (one_arc 0 (pos 9223372036854775807) ∷ one_arc 1 (pos 1) ∷ one_arc 2 (negsuc 0) ∷ [])
         ≡ Ok (kept 0 1 0 (pos 9223372036854775807 ∷ []) ∷ []) }
+{}
+
+/// Whole projections of small graphs, as the definition computes them.
+pub fn native_rows()
+    ensures natural { small_counts (type_r Orientation.Natural false (key_w (codes "w") Rule.Keep ∷ [])) ≡ Ok (6, 6) }
+    ensures undirected { small_counts (type_r Orientation.Undirected false []) ≡ Ok (6, 12) }
+    ensures counted { small_counts (type_r Orientation.Undirected true (count_all ∷ [])) ≡ Ok (6, 9) }
+    ensures each_rule { small_counts (type_r Orientation.Natural true each_rule) ≡ Ok (6, 5) }
+    ensures empty { counts (projected (of_all []) empty_graph) ≡ Ok (0, 0) }
+    ensures labels_and_values { labelled_nodes ≡
+        record { id = 0; labels = codes "A" ∷ []; values = missing_value ∷ pos 1 ∷ [] }
+        ∷ record { id = 1; labels = codes "A" ∷ codes "B" ∷ []; values = pos 3 ∷ pos 7 ∷ [] }
+        ∷ record { id = 2; labels = codes "B" ∷ []; values = pos 3 ∷ missing_value ∷ [] }
+        ∷ [] }
+    ensures no_label { projected (record { nodes = labelled (codes "A") [] ∷ []; rels = of_type (codes "T") ∷ [] }) small_store ≡ Err (NoSuchLabel (codes "A")) }
+    ensures no_type { projected (of_all (of_type (codes "T") ∷ [])) small_store ≡ Err (NoSuchType (codes "T")) }
+    ensures no_key { projected (record { nodes = record { label = codes "A"; store = None; props = k_from_b ∷ [] } ∷ []; rels = [] }) small_store ≡ Err (NoSuchProperty (codes "b")) }
+    ensures too_great { sum_counts (rel 0 (pos 9223372036854775807) ∷ rel 1 (pos 1) ∷ []) ≡ Err (SumOutOfRange (codes "R") (codes "s") 3 8) }
+    ensures great { sum_counts (rel 0 (pos 9223372036854775807) ∷ rel 1 (pos 1) ∷ rel 2 (negsuc 0) ∷ []) ≡ Ok (2, 1) }
 {}
 
 /// What the arguments of a projection mean, for the nodes.
