@@ -1,0 +1,2 @@
+-- Projected nodes in columns.
+pub mod Columns

@@ -1,0 +1,79 @@
+// What an entry takes of a node.
+ghost use Rattle.std.specs.Prelude.{◌≡◌, option_copied};
+ghost use Rattle.projection_spec.specs.RawArcs.{takes_node, is_projected, stored_value};
+ghost use Rattle.projection_spec.specs.NativeProjection.{node_value, prop_by, first_prop, value_by};
+
+use graph_model::{Name, Node, Prop};
+use projection_spec::{NodeEntry, NodeProp};
+
+/// Whether an entry takes a node.
+pub(crate) fn takes(entry: &NodeEntry, node: &Node) -> bool
+    ensures { result ≡ takes_node node.now entry.now }
+{
+    match &entry.store {
+        None => true,
+        Some(label) => node.labels.as_slice().iter().any(|own| label == own),
+    }
+}
+
+/// Whether some entry takes a node.
+pub fn is_projected(entries: &[NodeEntry], node: &Node) -> bool
+    ensures { result ≡ is_projected entries.now node.now }
+{
+    entries.iter().any(|entry| takes(entry, node))
+}
+
+/// The value that is stored under a key.
+fn stored_value(props: &[Prop], key: &Name) -> Option<i64>
+    ensures { result ≡ stored_value props.now key.now }
+{
+    for prop in props {
+        if *key == prop.key {
+            return Some(prop.value);
+        }
+    }
+    None
+}
+
+/// The property of an entry under a projected key, where the entry takes the node.
+fn prop_by<'a>(entry: &'a NodeEntry, node: &Node, key: &Name) -> Option<&'a NodeProp>
+    ensures { option_copied result ≡ prop_by node.now key.now entry.now }
+{
+    if takes(entry, node) {
+        entry.props.as_slice().iter().find(|prop| prop.key == *key)
+    } else {
+        None
+    }
+}
+
+/// The property of the first entry that takes the node and has the key.
+fn first_prop<'a>(entries: &'a [NodeEntry], node: &Node, key: &Name) -> Option<&'a NodeProp>
+    ensures { option_copied result ≡ first_prop entries.now node.now key.now }
+{
+    for entry in entries {
+        if let Some(prop) = prop_by(entry, node, key) {
+            return Some(prop);
+        }
+    }
+    None
+}
+
+/// The value that a property gives to a node.
+fn value_by(node: &Node, prop: &NodeProp) -> i64
+    ensures { result ≡ value_by node.now prop.now }
+{
+    match stored_value(node.props.as_slice(), &prop.store) {
+        Some(value) => value,
+        None => prop.default.unwrap_or(i64::MIN),
+    }
+}
+
+/// The value of a node under a projected key.
+pub(crate) fn node_value(entries: &[NodeEntry], node: &Node, key: &Name) -> i64
+    ensures { result ≡ node_value entries.now node.now key.now }
+{
+    match first_prop(entries, node, key) {
+        Some(prop) => value_by(node, prop),
+        None => i64::MIN,
+    }
+}
