@@ -91,7 +91,19 @@ fn columns_of(
     Ok(List::from_vec(columns))
 }
 
-/// The nodes that some entry takes, in columns.
+/// Nodes in columns.
+fn in_columns(alloc: Global, entries: &[NodeEntry], nodes: &[&Node]) -> Result<NodeColumns, Mem>
+    ensures { IfOk result (λ made. made ≡ node_columns entries.now (map (λ node. node.now) nodes.now)) }
+{
+    let keys = node_keys(alloc, entries)?;
+    Ok(NodeColumns {
+        ids: ids_of(alloc, nodes)?,
+        labels: labels_of(alloc, entries, nodes)?,
+        columns: columns_of(alloc, entries, keys.as_slice(), nodes)?,
+    })
+}
+
+/// The nodes that some entry takes, in columns: by ascending id, with the labels of the entries and the keys of all of them.
 ///
 /// # Errors
 /// `Mem` where there is no memory for them.
@@ -103,10 +115,5 @@ pub fn project_nodes(
     ensures { IfOk result (λ made. made ≡ node_columns entries.now (kept_nodes from.now entries.now)) }
 {
     let nodes = kept_nodes(alloc, from, entries)?;
-    let keys = node_keys(alloc, entries)?;
-    Ok(NodeColumns {
-        ids: ids_of(alloc, &nodes)?,
-        labels: labels_of(alloc, entries, &nodes)?,
-        columns: columns_of(alloc, entries, keys.as_slice(), &nodes)?,
-    })
+    in_columns(alloc, entries, nodes.as_slice())
 }

@@ -6,8 +6,8 @@
 #![tactic(auto)]
 
 mod columns;
-mod keys;
 mod kept;
+mod keys;
 mod taking;
 
 pub use columns::{NodeColumns, project_nodes};

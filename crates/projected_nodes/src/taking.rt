@@ -1,10 +1,19 @@
 // What an entry takes of a node.
 ghost use Rattle.std.specs.Prelude.{◌≡◌, option_copied};
+ghost use Rattle.std.specs.List.{find, list_any};
+ghost use Rattle.std.specs.Str.{bytes_eq};
 ghost use Rattle.projection_spec.specs.RawArcs.{takes_node, is_projected, stored_value};
-ghost use Rattle.projection_spec.specs.NativeProjection.{node_value, prop_by, first_prop, value_by};
+ghost use Rattle.projection_spec.specs.NativeProjection.{is_of_key, node_value, prop_by, first_prop, value_by};
 
 use graph_model::{Name, Node, Prop};
 use projection_spec::{NodeEntry, NodeProp};
+
+/// Whether a label is among labels.
+fn is_listed(labels: &[Name], label: &Name) -> bool
+    ensures { result ≡ list_any (bytes_eq label.now) labels.now }
+{
+    labels.iter().any(|own| label == own)
+}
 
 /// Whether an entry takes a node.
 pub(crate) fn takes(entry: &NodeEntry, node: &Node) -> bool
@@ -12,7 +21,7 @@ pub(crate) fn takes(entry: &NodeEntry, node: &Node) -> bool
 {
     match &entry.store {
         None => true,
-        Some(label) => node.labels.as_slice().iter().any(|own| label == own),
+        Some(label) => is_listed(node.labels.as_slice(), label),
     }
 }
 
@@ -27,12 +36,17 @@ pub fn is_projected(entries: &[NodeEntry], node: &Node) -> bool
 fn stored_value(props: &[Prop], key: &Name) -> Option<i64>
     ensures { result ≡ stored_value props.now key.now }
 {
-    for prop in props {
-        if *key == prop.key {
-            return Some(prop.value);
-        }
+    match props.iter().find(|prop| *key == prop.key) {
+        Some(prop) => Some(prop.value),
+        None => None,
     }
-    None
+}
+
+/// The property of a projected key.
+fn prop_under<'a>(props: &'a [NodeProp], key: &Name) -> Option<&'a NodeProp>
+    ensures { option_copied result ≡ find (is_of_key key.now) props.now }
+{
+    props.iter().find(|prop| prop.key == *key)
 }
 
 /// The property of an entry under a projected key, where the entry takes the node.
@@ -40,7 +54,7 @@ fn prop_by<'a>(entry: &'a NodeEntry, node: &Node, key: &Name) -> Option<&'a Node
     ensures { option_copied result ≡ prop_by node.now key.now entry.now }
 {
     if takes(entry, node) {
-        entry.props.as_slice().iter().find(|prop| prop.key == *key)
+        prop_under(entry.props.as_slice(), key)
     } else {
         None
     }

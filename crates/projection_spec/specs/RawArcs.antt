@@ -1,9 +1,9 @@
 -- The arcs that the relationships of a graph give for an entry, before any are grouped.
 --   raw_arcs g entries entry   the arcs of a relationship entry, where these are the node entries
-use Rattle.std.specs.Prelude.{◌≡◌, ℕ, ◌==◌, nat_eq, nat_lt, ℤ, Bool, true, false, ◌&&◌, ◌||◌, if◌then◌else◌, List, [], ◌∷◌, map, filter, find, Option, None, Some}
+use Rattle.std.specs.Prelude.{◌≡◌, ℕ, ◌==◌, nat_lt, ℤ, Bool, true, false, ◌&&◌, ◌||◌, if◌then◌else◌, List, [], ◌∷◌, map, filter, find, Option, None, Some}
 use Rattle.std.specs.Option.{option_map}
 use Rattle.std.specs.List.{flat_map, list_any}
-use Rattle.std.specs.Cmp.Lexicographic.{pointwise}
+use Rattle.std.specs.Str.{bytes_eq}
 use Rattle.graph_model.specs.declared.graph.Node.{Node}
 use Rattle.graph_model.specs.declared.graph.Prop.{Prop}
 use Rattle.graph_model.specs.declared.graph.Rel.{Rel}
@@ -19,12 +19,12 @@ use Rattle.projection_spec.specs.Fields.{RelFields}
 -- whether a name is the one that is asked for; any is where none is asked for
 abbrev pub is_asked_for : Option (List ℕ) → List ℕ → Bool
 is_asked_for None name = true
-is_asked_for (Some asked) name = pointwise nat_eq asked name
+is_asked_for (Some asked) name = bytes_eq asked name
 
 -- whether a node has the store's label of an entry; each node has where the entry asks for none
 abbrev pub has_label : Option (List ℕ) → List (List ℕ) → Bool
 has_label None labels = true
-has_label (Some asked) labels = list_any (pointwise nat_eq asked) labels
+has_label (Some asked) labels = list_any (bytes_eq asked) labels
 
 -- whether an entry takes a node
 abbrev pub takes_node : Node → NodeEntry → Bool
@@ -45,7 +45,7 @@ becomes_arcs g entries entry rel =
 
 -- whether a value stands under a key
 abbrev pub stands_under : List ℕ → Prop → Bool
-stands_under key prop = pointwise nat_eq key prop.key
+stands_under key prop = bytes_eq key prop.key
 
 -- the value that is stored under a key
 abbrev pub stored_value : List Prop → List ℕ → Option ℤ

@@ -1,0 +1,4 @@
+-- Lemmas on projected nodes.
+pub mod ColumnLemmas
+pub mod KeyLemmas
+pub mod NodeLemmas
