@@ -1,0 +1,57 @@
+-- Arcs of relationships in one flat list.
+--   joins_placed slots entry rel      whether a relationship becomes arcs: it is of the type, and both ends have places
+--   flat_arcs orientation first rels  the arcs of relationships, where the first has this place
+--   flat_cmp                          the order of arcs: by source, by target, and by the place of the relationship
+--   raw_of rels props arc             a raw arc, read from its relationship
+use Rattle.std.specs.Prelude.{ℕ, ◌+◌, Bool, ◌&&◌, List, [], ◌∷◌, ◌++◌, is_some, slice_index_or}
+use Rattle.std.specs.declared.cmp.Ordering.{Ordering}
+use Rattle.std.specs.Ordering.{nat_cmp, ordering_then, is_lt}
+use Rattle.graph_model.specs.declared.graph.Rel.{Rel}
+use Rattle.graph_model.specs.declared.graph.Orientation.{Orientation}
+use Rattle.graph_model.specs.declared.graph.Orientation.TheVariants.{Natural, Reverse, Undirected}
+use Rattle.projection_spec.specs.declared.arcs.RawArc.{RawArc}
+use Rattle.projection_spec.specs.declared.entries.RelProp.{RelProp}
+use Rattle.projection_spec.specs.Fields.{RelFields}
+use Rattle.projection_spec.specs.RawArcs.{is_asked_for, arc_of}
+use Rattle.projected_arcs.specs.declared.flat.FlatArc.{FlatArc}
+use Rattle.projected_arcs.specs.Places.{slot_at}
+
+-- whether a relationship becomes arcs of an entry: it is of the type that is asked for, and both its ends have places
+abbrev pub joins_placed : List ℕ → RelFields → Rel → Bool
+joins_placed slots entry rel =
+    is_asked_for entry.store rel.kind && is_some (slot_at slots rel.source) && is_some (slot_at slots rel.target)
+
+-- an arc of the relationship at a place
+abbrev pub flat_arc : ℕ → ℕ → ℕ → FlatArc
+flat_arc place source target = record { source = source; target = target; place = place }
+
+-- the arcs of the relationship at a place
+abbrev pub turned_flat : Orientation → ℕ → Rel → List FlatArc
+turned_flat Natural place rel = flat_arc place rel.source rel.target ∷ []
+turned_flat Reverse place rel = flat_arc place rel.target rel.source ∷ []
+turned_flat Undirected place rel = flat_arc place rel.source rel.target ∷ flat_arc place rel.target rel.source ∷ []
+
+-- the arcs of relationships, of which the first has this place
+abbrev pub flat_arcs : Orientation → ℕ → List Rel → List FlatArc
+flat_arcs orientation first [] = []
+flat_arcs orientation first (rel ∷ rels) = turned_flat orientation first rel ++ flat_arcs orientation (first + 1) rels
+
+-- the order of arcs: by source, by target, and by the place of the relationship
+abbrev pub flat_cmp : FlatArc → FlatArc → Ordering
+flat_cmp a b = ordering_then (nat_cmp a.source b.source) (ordering_then (nat_cmp a.target b.target) (nat_cmp a.place b.place))
+
+-- whether an arc comes before another
+abbrev pub flat_before : FlatArc → FlatArc → Bool
+flat_before a b = is_lt (flat_cmp a b)
+
+-- no relationship
+abbrev pub no_rel : Rel
+no_rel = record { id = 0; source = 0; target = 0; kind = []; props = [] }
+
+-- the relationship of an arc
+abbrev pub rel_of : List Rel → FlatArc → Rel
+rel_of rels arc = slice_index_or rels arc.place no_rel
+
+-- a raw arc, read from its relationship
+abbrev pub raw_of : List Rel → List RelProp → FlatArc → RawArc
+raw_of rels props arc = arc_of props (rel_of rels arc) arc.source arc.target

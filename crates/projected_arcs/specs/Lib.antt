@@ -1,0 +1,3 @@
+-- Places of nodes, and arcs in order.
+pub mod Places
+pub mod Flat

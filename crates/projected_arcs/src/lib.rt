@@ -1,0 +1,8 @@
+//! The arcs of a projected type in rows: the relationships of an entry turned, put in order, and grouped where the entry groups.
+#![tactic(auto)]
+
+mod flat;
+mod matching;
+mod places;
+
+pub use places::Places;
