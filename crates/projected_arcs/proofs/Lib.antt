@@ -1,5 +1,10 @@
 -- Lemmas on projected arcs.
+pub mod EndLemmas
 pub mod FlatOrder
+pub mod KeptLemmas
+pub mod ListLemmas
 pub mod PlaceLemmas
+pub mod RawLemmas
 pub mod RelLemmas
+pub mod RowLemmas
 pub mod Sorting

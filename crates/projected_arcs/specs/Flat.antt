@@ -3,18 +3,23 @@
 --   flat_arcs orientation first rels  the arcs of relationships, where the first has this place
 --   flat_cmp                          the order of arcs: by source, by target, and by the place of the relationship
 --   raw_of rels props arc             a raw arc, read from its relationship
-use Rattle.std.specs.Prelude.{ℕ, ◌+◌, Bool, ◌&&◌, List, [], ◌∷◌, ◌++◌, is_some, slice_index_or}
+--   arc_column rels arcs prop         a key with a value for each arc, where each arc is kept
+--   flat_ends slots arc               the places of the ends of an arc
+use Rattle.std.specs.Prelude.{ℕ, ◌+◌, ◌<◌, ℤ, Bool, ◌&&◌, List, [], ◌∷◌, ◌++◌, map, is_some, unwrap_or, slice_index_or}
+use Rattle.std.specs.Option.{option_or}
 use Rattle.std.specs.declared.cmp.Ordering.{Ordering}
 use Rattle.std.specs.Ordering.{nat_cmp, ordering_then, is_lt}
+use Rattle.graph_model.specs.declared.graph.Prop.{Prop}
 use Rattle.graph_model.specs.declared.graph.Rel.{Rel}
 use Rattle.graph_model.specs.declared.graph.Orientation.{Orientation}
 use Rattle.graph_model.specs.declared.graph.Orientation.TheVariants.{Natural, Reverse, Undirected}
+use Rattle.graph_model.specs.Projection.{missing_value}
 use Rattle.projection_spec.specs.declared.arcs.RawArc.{RawArc}
 use Rattle.projection_spec.specs.declared.entries.RelProp.{RelProp}
 use Rattle.projection_spec.specs.Fields.{RelFields}
-use Rattle.projection_spec.specs.RawArcs.{is_asked_for, arc_of}
+use Rattle.projection_spec.specs.RawArcs.{is_asked_for, arc_of, stored_cell}
 use Rattle.projected_arcs.specs.declared.flat.FlatArc.{FlatArc}
-use Rattle.projected_arcs.specs.Places.{slot_at}
+use Rattle.projected_arcs.specs.Places.{slot_at, place_or_zero}
 
 -- whether a relationship becomes arcs of an entry: it is of the type that is asked for, and both its ends have places
 abbrev pub joins_placed : List ℕ → RelFields → Rel → Bool
@@ -55,3 +60,27 @@ rel_of rels arc = slice_index_or rels arc.place no_rel
 -- a raw arc, read from its relationship
 abbrev pub raw_of : List Rel → List RelProp → FlatArc → RawArc
 raw_of rels props arc = arc_of props (rel_of rels arc) arc.source arc.target
+
+-- the value of a relationship for a property, where each arc is kept: the stored one, else the default, else the missing one
+abbrev pub kept_value : List Prop → RelProp → ℤ
+kept_value props prop = unwrap_or (option_or (stored_cell props prop.store) prop.default) missing_value
+
+-- the value of an arc for a property
+abbrev pub arc_value : List Rel → RelProp → FlatArc → ℤ
+arc_value rels prop arc = kept_value (rel_of rels arc).props prop
+
+-- a key with a value for each arc
+abbrev pub arc_column : List Rel → List FlatArc → RelProp → List ℕ × List ℤ
+arc_column rels arcs prop = (prop.key, map (arc_value rels prop) arcs)
+
+-- the places of the ends of an arc
+abbrev pub flat_ends : List ℕ → FlatArc → ℕ × ℕ
+flat_ends slots arc = (place_or_zero slots arc.source, place_or_zero slots arc.target)
+
+-- the relationship of an arc is one of so many
+abbrev pub IsWithin : ℕ → FlatArc → Type 0
+IsWithin many arc = arc.place < many
+
+-- the value at the place of an arc's relationship
+abbrev pub picked_value : List ℤ → FlatArc → ℤ
+picked_value values arc = slice_index_or values arc.place missing_value

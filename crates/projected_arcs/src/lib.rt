@@ -4,5 +4,6 @@
 mod flat;
 mod matching;
 mod places;
+mod rows;
 
 pub use places::Places;

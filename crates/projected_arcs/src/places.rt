@@ -1,7 +1,7 @@
 // The places of nodes by their ids.
 ghost use Rattle.std.specs.Prelude.{◌≡◌, ◌-◌, ◌^◌, ◌<◌, All, IfOk, length};
 ghost use Rattle.std.specs.List.Sorted.{IsStrictlyIncreasing};
-ghost use Rattle.projected_arcs.specs.Places.{AreSlots, slot_at};
+ghost use Rattle.projected_arcs.specs.Places.{AreSlots, slot_at, place_or_zero};
 
 use graph_model::Mem;
 use std::alloc::Global;
@@ -51,5 +51,16 @@ impl Places {
             Some(&place) if place != NO_PLACE => Some(place),
             _ => None,
         }
+    }
+
+    /// The places of the ends of an arc, and 0 for one without a place.
+    #[inline]
+    pub(crate) fn ends(&self, source: u32, target: u32) -> (u32, u32)
+        ensures { result ≡ (place_or_zero self.now source, place_or_zero self.now target) }
+    {
+        (
+            self.place(source).unwrap_or(0),
+            self.place(target).unwrap_or(0),
+        )
     }
 }

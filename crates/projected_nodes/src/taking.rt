@@ -2,11 +2,11 @@
 ghost use Rattle.std.specs.Prelude.{◌≡◌, option_copied};
 ghost use Rattle.std.specs.List.{find, list_any};
 ghost use Rattle.std.specs.Str.{bytes_eq};
-ghost use Rattle.projection_spec.specs.RawArcs.{takes_node, is_projected, stored_value};
+ghost use Rattle.projection_spec.specs.RawArcs.{takes_node, is_projected};
 ghost use Rattle.projection_spec.specs.NativeProjection.{is_of_key, node_value, prop_by, first_prop, value_by};
 
-use graph_model::{Name, Node, Prop};
-use projection_spec::{NodeEntry, NodeProp};
+use graph_model::{Name, Node};
+use projection_spec::{NodeEntry, NodeProp, stored_value};
 
 /// Whether a label is among labels.
 fn is_listed(labels: &[Name], label: &Name) -> bool
@@ -30,16 +30,6 @@ pub fn is_projected(entries: &[NodeEntry], node: &Node) -> bool
     ensures { result ≡ is_projected entries.now node.now }
 {
     entries.iter().any(|entry| takes(entry, node))
-}
-
-/// The value that is stored under a key.
-fn stored_value(props: &[Prop], key: &Name) -> Option<i64>
-    ensures { result ≡ stored_value props.now key.now }
-{
-    match props.iter().find(|prop| *key == prop.key) {
-        Some(prop) => Some(prop.value),
-        None => None,
-    }
 }
 
 /// The property of a projected key.

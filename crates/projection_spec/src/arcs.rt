@@ -1,5 +1,8 @@
 // Arcs before and after those between the same nodes are grouped.
-use graph_model::List;
+ghost use Rattle.std.specs.Prelude.{◌≡◌};
+ghost use Rattle.projection_spec.specs.RawArcs.{stored_value, stored_cell};
+
+use graph_model::{List, Name, Prop};
 
 /// An arc that a relationship gives, with a cell for each key of its entry: the value that the relationship stores.
 #[derive(Debug, Drop)]
@@ -17,4 +20,24 @@ pub struct Grouped {
     pub target: u32,
     pub rel: u32,
     pub values: List<i64>,
+}
+
+/// The value that stands under a key among stored values.
+pub fn stored_value(props: &[Prop], key: &Name) -> Option<i64>
+    ensures { result ≡ stored_value props.now key.now }
+{
+    match props.iter().find(|prop| *key == prop.key) {
+        Some(prop) => Some(prop.value),
+        None => None,
+    }
+}
+
+/// The cell of a key of the store among stored values: none where there is no such key.
+pub fn stored_cell(props: &[Prop], key: &Option<Name>) -> Option<i64>
+    ensures { result ≡ stored_cell props.now key.now }
+{
+    match key {
+        Some(key) => stored_value(props, key),
+        None => None,
+    }
 }

@@ -23,6 +23,6 @@ mod tests;
 mod words;
 mod written;
 
-pub use arcs::{Grouped, RawArc};
+pub use arcs::{Grouped, RawArc, stored_cell, stored_value};
 pub use entries::{NodeEntry, NodeProp, ProjectSpec, RelEntry, RelProp, Rule};
 pub use graph_model::Orientation;
