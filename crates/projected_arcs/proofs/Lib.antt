@@ -7,4 +7,5 @@ pub mod PlaceLemmas
 pub mod RawLemmas
 pub mod RelLemmas
 pub mod RowLemmas
+pub mod SingleLemmas
 pub mod Sorting

@@ -8,7 +8,11 @@ use Rattle.projection_spec.specs.declared.entries.RelProp.{RelProp}
 use Rattle.projected_arcs.specs.declared.flat.FlatArc.{FlatArc}
 use Rattle.projected_arcs.specs.Flat.{no_rel, kept_value, arc_value, arc_column, picked_value, IsWithin}
 use Rattle.projected_arcs.proofs.RelLemmas.{shown, map-shown}
-use Rattle.csr_columns.specs.Plain.{plain_arc, values_at, value_of}
+use Rattle.std.specs.List.{All}
+use Rattle.std.specs.List.Sorted.{IsSorted}
+use Rattle.csr_columns.specs.Rows.{ArcRows, LiesBelow, arc_cmp, arcs_of, rows_of, column_of, listed_column, arc_rows_of, names_of}
+use Rattle.csr_columns.specs.Plain.{plain_arc, plain_arcs, values_at, value_of}
+use Rattle.csr_columns.proofs.Listing.{arcs_of-rows_of, listed-values_of}
 use Rattle.projected_arcs.proofs.ListLemmas.{map-at-middle, length-push, push-front}
 
 module _ {A : Type 0} (ids : List ℕ) (source target : A → ℕ) (end : A → ℕ × ℕ) (fields : List (List ℕ × (A → ℤ))) where
@@ -48,6 +52,32 @@ module _ {A : Type 0} (ids : List ℕ) (source target : A → ℕ) (end : A → 
   -- the items in columns, read back
   pub arcs-over : (items : List A) → AllByRecursion EndsStand items → map (plain_arc ids (map (column_over items) fields)) (enumerate_from 0 (map end items)) ≡ map arc_over items
   arcs-over items stand = arcs-behind [] items stand
+
+  module _ (n : ℕ) (items : List A) (below : All (LiesBelow n) (map end items)) (sorted : IsSorted arc_cmp (map end items)) where
+    listed-over : (fs : List (List ℕ × (A → ℤ))) → map listed_column (map (column_of n (map end items)) (map (column_over items) fs)) ≡ map (column_over items) fs
+    listed-over [] = refl
+    listed-over (field ∷ fs) =
+        let values = map field.1 items in
+        let here : listed_column (column_of n (map end items) (field.0, values)) ≡ (field.0, values) =
+        ap (λ vs. (field.0, vs)) (listed-values_of n (map end items) values below sorted (length-map items field.1 ∙ sym (length-map items end))) in
+        ap (λ column. column ∷ map listed_column (map (column_of n (map end items)) (map (column_over items) fs))) here
+        ∙ ap (λ columns. column_over items field ∷ columns) (listed-over fs)
+
+    -- rows of the items, read back
+    pub plain-over : (rows : ArcRows) → rows ≡ arc_rows_of n (map end items) (map (column_over items) fields) → AllByRecursion EndsStand items → plain_arcs ids rows ≡ map arc_over items
+    plain-over rows is stand =
+        ap (plain_arcs ids) is
+        ∙ ap (λ columns. map (plain_arc ids columns) (enumerate_from 0 (arcs_of (rows_of n (map end items))))) (listed-over fields)
+        ∙ ap (λ arcs. map (plain_arc ids (map (column_over items) fields)) (enumerate_from 0 arcs)) (arcs_of-rows_of n (map end items) below sorted)
+        ∙ arcs-over items stand
+
+    names-over : (fs : List (List ℕ × (A → ℤ))) → names_of (map (column_of n (map end items)) (map (column_over items) fs)) ≡ map (λ field. field.0) fs
+    names-over [] = refl
+    names-over (field ∷ fs) = ap (λ names. field.0 ∷ names) (names-over fs)
+
+    -- the keys of rows of the items
+    pub keys-over : (rows : ArcRows) → rows ≡ arc_rows_of n (map end items) (map (column_over items) fields) → names_of rows.columns ≡ map (λ field. field.0) fields
+    keys-over rows is = ap (λ r. names_of r.columns) is ∙ names-over fields
 
 -- ---- columns of flat arcs
 

@@ -2,6 +2,7 @@
 #![tactic(auto)]
 
 mod flat;
+mod grouped;
 mod matching;
 mod places;
 mod rows;
