@@ -1,5 +1,5 @@
 -- The order of flat arcs.
-use Rattle.std.proofs.Common.{◌≡◌, List, refl, ap, ◌∙◌, sym, true≢false}
+use Rattle.std.proofs.Common.{◌≡◌, false, List, refl, ap, ◌∙◌, sym, true≢false}
 use Rattle.std.proofs.lemmas.Cmp.{nat_cmp_total, on_total, then_total}
 use Rattle.std.specs.Cmp.{IsTotalOrder}
 use Rattle.std.proofs.lemmas.Map.Lookups.{exact_unsigned}
@@ -7,10 +7,10 @@ use Rattle.std.specs.Ordering.{nat_cmp, ordering_then, is_eq}
 use Rattle.std.specs.declared.cmp.Ordering.{Ordering}
 use Rattle.std.specs.declared.cmp.Ordering.TheVariants.{Less, Equal, Greater}
 use Rattle.std.specs.List.Sorted.{IsPermutation, IsSorted}
-use Rattle.graph_model.specs.Lists.{in_order}
+use Rattle.graph_model.specs.Lists.{Pairwise, in_order}
 use Rattle.projected_arcs.specs.declared.flat.FlatArc.{FlatArc}
 use Rattle.projected_arcs.specs.Flat.{flat_cmp, flat_before}
-use Rattle.projected_arcs.proofs.Sorting.{sorted-in_order}
+use Rattle.projected_arcs.proofs.Sorting.{sorted-in_order, in_order-ascends}
 
 flat_total : IsTotalOrder flat_cmp
 flat_total = then_total (on_total (λ (arc : FlatArc). arc.source) nat_cmp_total) (then_total (on_total (λ (arc : FlatArc). arc.target) nat_cmp_total) (on_total (λ (arc : FlatArc). arc.place) nat_cmp_total))
@@ -32,3 +32,7 @@ flat_apart x y is =
 -- sorted arcs are the arcs in order
 pub sorted-flat : (xs ys : List FlatArc) → IsPermutation xs ys → IsSorted flat_cmp ys → ys ≡ in_order flat_before xs
 sorted-flat xs ys moved up = sorted-in_order flat_total flat_apart xs ys moved up
+
+-- of arcs in order, none comes before an earlier one
+pub flat-ascends : (xs : List FlatArc) → Pairwise (λ a b. flat_before b a ≡ false) (in_order flat_before xs)
+flat-ascends xs = in_order-ascends flat_total flat_apart xs

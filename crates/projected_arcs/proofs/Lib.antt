@@ -1,9 +1,11 @@
 -- Lemmas on projected arcs.
 pub mod EndLemmas
 pub mod FlatOrder
+pub mod GroupedLemmas
 pub mod KeptLemmas
 pub mod ListLemmas
 pub mod PlaceLemmas
+pub mod PlacedLemmas
 pub mod RawLemmas
 pub mod RelLemmas
 pub mod RowLemmas

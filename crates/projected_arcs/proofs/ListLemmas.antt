@@ -33,7 +33,7 @@ Pairwise-at R (x ∷ xs) zero (suc j) d h within pairs = All-at (R x) xs j d (om
 Pairwise-at R (x ∷ xs) (suc i) zero d h within pairs = absurd (omega arith)
 Pairwise-at R (x ∷ xs) (suc i) (suc j) d h within pairs = Pairwise-at R xs i j d (omega arith) (omega arith) pairs.1
 
-All-filter : {A : Type 0} (P : A → Type 0) (p : A → Bool) (xs : List A) → AllByRecursion P xs → AllByRecursion P (filter p xs)
+pub All-filter : {A : Type 0} (P : A → Type 0) (p : A → Bool) (xs : List A) → AllByRecursion P xs → AllByRecursion P (filter p xs)
 All-filter P p [] all = tt
 All-filter P p (x ∷ xs) all =
     elim (p x) as (λ b. AllByRecursion P (cond b (x ∷ filter p xs) (filter p xs))) [ true ↦ (all.0, All-filter P p xs all.1) | false ↦ All-filter P p xs all.1 ]

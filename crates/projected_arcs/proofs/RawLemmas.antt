@@ -67,14 +67,14 @@ ids-ordered rels i j up i_in j_in =
     (λ (gt : j < i). le-ltb (get_or rels i no_rel).id (get_or rels j no_rel).id (omega (arith, Pairwise-at RelBefore rels j i no_rel gt i_in up)) ∙ sym (le-ltb i j (omega arith))))
     (cases_order i j)
 
-raw-ordered : (rels : List Rel) (props : List RelProp) → Pairwise RelBefore rels → (a b : FlatArc) → IsWithin (length rels) a → IsWithin (length rels) b → arc_before (raw_of rels props a) (raw_of rels props b) ≡ flat_before a b
+pub raw-ordered : (rels : List Rel) (props : List RelProp) → Pairwise RelBefore rels → (a b : FlatArc) → IsWithin (length rels) a → IsWithin (length rels) b → arc_before (raw_of rels props a) (raw_of rels props b) ≡ flat_before a b
 raw-ordered rels props up a b a_in b_in =
     ap (λ last. nat_lt a.source b.source || (eqb a.source b.source && (nat_lt a.target b.target || (eqb a.target b.target && last)))) (ids-ordered rels a.place b.place up a_in b_in)
     ∙ sym (flat_before-is a b)
 
 -- ---- places
 
-All-++ : {A : Type 0} (P : A → Type 0) (xs ys : List A) → AllByRecursion P xs → AllByRecursion P ys → AllByRecursion P (xs ++ ys)
+pub All-++ : {A : Type 0} (P : A → Type 0) (xs ys : List A) → AllByRecursion P xs → AllByRecursion P ys → AllByRecursion P (xs ++ ys)
 All-++ P [] ys first second = second
 All-++ P (x ∷ xs) ys first second = (first.0, All-++ P xs ys first.1 second)
 

@@ -16,7 +16,7 @@ use Rattle.csr_columns.specs.Rows.{ArcRows, LiesBelow, arc_cmp, arc_rows_of, nam
 use Rattle.csr_columns.specs.Plain.{plain_arcs}
 use Rattle.projected_arcs.specs.declared.flat.FlatArc.{FlatArc}
 use Rattle.projected_arcs.specs.Flat.{flat_arcs, flat_before, flat_ends, rel_of, raw_of, kept_value, arc_value, arc_column}
-use Rattle.projected_arcs.specs.Types.{joins_among, arcs_among, type_among, RowsGive}
+use Rattle.projected_arcs.specs.Types.{joins_among, arcs_among, RowsGive}
 use Rattle.projected_arcs.proofs.RawLemmas.{raw-flat}
 use Rattle.projected_arcs.proofs.KeptLemmas.{kept_of, kept-alone}
 use Rattle.projected_arcs.proofs.EndLemmas.{IsPlaced}
@@ -64,20 +64,18 @@ raws-among ids g entry rels arcs rels_are up arcs_are =
     ∙ raw-flat entry.orientation entry.props rels up
     ∙ ap (map (raw_of rels entry.props)) (sym arcs_are)
 
-pub single-gives : (ids slots : List ℕ) (n : ℕ) (g : PropertyGraph) (entry : RelFields) (rels : List Rel) (arcs : List FlatArc) (rows : ArcRows)
+pub single-gives : (ids slots : List ℕ) (n : ℕ) (entry : RelFields) (rels : List Rel) (arcs : List FlatArc) (rows : ArcRows)
     → entry.grouped ≡ false → AllByRecursion (HasFittingRule false) entry.props
-    → arcs_among ids g entry ≡ map (raw_of rels entry.props) arcs
     → All (LiesBelow n) (map (flat_ends slots) arcs) → IsSorted arc_cmp (map (flat_ends slots) arcs) → AllByRecursion (IsPlaced ids slots source_of target_of) arcs
     → rows ≡ arc_rows_of n (map (flat_ends slots) arcs) (map (arc_column rels arcs) entry.props)
-    → RowsGive ids g entry rows
-single-gives ids slots n g entry rels arcs rows single fits raws below sorted placed are =
+    → RowsGive ids entry (map (raw_of rels entry.props) arcs) rows
+single-gives ids slots n entry rels arcs rows single fits below sorted placed are =
     let props = entry.props in
     let fields = single_fields rels props in
     let made : rows ≡ arc_rows_of n (map (flat_ends slots) arcs) (map (column_over ids source_of target_of (flat_ends slots) fields arcs) fields) =
     are ∙ ap (arc_rows_of n (map (flat_ends slots) arcs)) (fields-over ids slots rels arcs props props) in
-    let kept : kept_arcs entry (arcs_among ids g entry) ≡ Ok (map (kept_of rels props) arcs) =
-    ap (kept_arcs entry) raws
-    ∙ ap (λ b. kept_groups props (groups_of b (map (raw_of rels props) arcs))) single
+    let kept : kept_arcs entry (map (raw_of rels props) arcs) ≡ Ok (map (kept_of rels props) arcs) =
+    ap (λ b. kept_groups props (groups_of b (map (raw_of rels props) arcs))) single
     ∙ kept-alone rels props arcs fits in
     let keys : map rel_prop_key props ≡ names_of rows.columns =
     sym (keys-over ids source_of target_of (flat_ends slots) fields n arcs below sorted rows made ∙ names-single rels props) in

@@ -13,14 +13,14 @@ use Rattle.graph_model.specs.Lists.{Pairwise, insert_in_order, in_order}
 
 module _ {A : Type 0} {R : A → A → Ordering} (o : IsTotalOrder R) (apart : (x y : A) → R x y ≡ Equal → x ≡ y) where
   -- an item comes before another
-  abbrev before : A → A → Bool
+  abbrev pub before : A → A → Bool
   before x y = is_lt (R x y)
 
   weak : IsStrictWeakOrder before
   weak = ranks_by o (λ x. x)
 
   -- an item doesn't come after another
-  abbrev InOrder : A → A → Type 0
+  abbrev pub InOrder : A → A → Type 0
   InOrder x y = before y x ≡ false
 
   -- of two items of which neither comes before the other, each is the other
@@ -108,7 +108,7 @@ module _ {A : Type 0} {R : A → A → Ordering} (o : IsTotalOrder R) (apart : (
       (λ (no : before y x ≡ false). rw no ((no, All-later x y ys no up.0), up))
       (cases_Bool (before y x))
 
-  in_order-ascends : (xs : List A) → Pairwise InOrder (in_order before xs)
+  pub in_order-ascends : (xs : List A) → Pairwise InOrder (in_order before xs)
   in_order-ascends [] = tt
   in_order-ascends (x ∷ xs) = insert-in_order x (in_order before xs) (in_order-ascends xs)
 

@@ -2,7 +2,7 @@
 --   arcs_among ids g entry         its raw arcs
 --   type_among ids g entry         its type, or why it can't be
 --   grouped_columns kept at props  the keys of arcs that are kept for groups, each with a value for every arc
---   RowsGive ids g entry rows      rows are those of the type
+--   RowsGive ids entry raws rows   rows are those of the type that an entry makes of raw arcs
 use Rattle.std.specs.Prelude.{◌≡◌, ℕ, ◌+◌, ℤ, Bool, ◌&&◌, List, [], ◌∷◌, map, filter, is_some, slice_index_or, Result, Ok}
 use Rattle.std.specs.List.{flat_map}
 use Rattle.graph_model.specs.declared.graph.Rel.{Rel}
@@ -34,9 +34,9 @@ arcs_among ids g entry = in_order arc_before (flat_map (arcs_of entry) (filter (
 abbrev pub type_among : List ℕ → PropertyGraph → RelFields → Result ProjectedType Refusal
 type_among ids g entry = type_of entry (kept_arcs entry (arcs_among ids g entry))
 
--- rows are those of the type that an entry gives
-abbrev pub RowsGive : List ℕ → PropertyGraph → RelFields → ArcRows → Type 0
-RowsGive ids g entry rows = type_among ids g entry ≡ Ok (record {
+-- rows are those of the type that an entry makes of raw arcs
+abbrev pub RowsGive : List ℕ → RelFields → List RawArc → ArcRows → Type 0
+RowsGive ids entry raws rows = type_of entry (kept_arcs entry raws) ≡ Ok (record {
   name = entry.kind;
   orientation = entry.orientation;
   keys = names_of rows.columns;
