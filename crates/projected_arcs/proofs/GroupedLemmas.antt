@@ -111,9 +111,10 @@ later-ends arc (b ∷ arcs) later =
 
 ends-ascend : (arcs : List RawArc) → Pairwise ArcInOrder arcs → Pairwise GroupsInOrder (ends_of arcs)
 ends-ascend [] up = tt
-ends-ascend (arc ∷ arcs) up =
-    (All-filter (λ (group : ArcGroup). EndsInOrder arc.source arc.target group.source group.target) (has_other_ends arc) (ends_of arcs) (ends-all (EndsInOrder arc.source arc.target) arcs (later-ends arc arcs up.0)),
-    Pairwise-filter GroupsInOrder (has_other_ends arc) (ends_of arcs) (ends-ascend arcs up.1))
+ends-ascend (arc ∷ arcs) up = (
+  All-filter (λ (group : ArcGroup). EndsInOrder arc.source arc.target group.source group.target) (has_other_ends arc) (ends_of arcs) (ends-all (EndsInOrder arc.source arc.target) arcs (later-ends arc arcs up.0)),
+  Pairwise-filter GroupsInOrder (has_other_ends arc) (ends_of arcs) (ends-ascend arcs up.1),
+)
 
 with-ascend : (raws : List RawArc) (groups : List ArcGroup) → Pairwise GroupsInOrder groups → Pairwise GroupsInOrder (map (with_arcs raws) groups)
 with-ascend raws [] up = tt
@@ -124,11 +125,12 @@ pub kept-ascend : (many : ℕ) (groups : List ArcGroup) (kept : List Grouped) �
 kept-ascend many [] [] are up = tt
 kept-ascend many [] (arc ∷ arcs) are up = absurd are
 kept-ascend many (group ∷ groups) [] are up = absurd are
-kept-ascend many (group ∷ groups) (arc ∷ arcs) are up =
-    (subst (λ s. AllByRecursion (λ b. EndsInOrder s arc.target b.source b.target) arcs) (sym are.0.source_same)
-    (subst (λ t. AllByRecursion (λ b. EndsInOrder group.source t b.source b.target) arcs) (sym are.0.target_same)
-    (kept-all (EndsInOrder group.source group.target) many groups arcs are.1 up.0)),
-    kept-ascend many groups arcs are.1 up.1)
+kept-ascend many (group ∷ groups) (arc ∷ arcs) are up = (
+  subst (λ s. AllByRecursion (λ b. EndsInOrder s arc.target b.source b.target) arcs) (sym are.0.source_same)
+      (subst (λ t. AllByRecursion (λ b. EndsInOrder group.source t b.source b.target) arcs) (sym are.0.target_same)
+      (kept-all (EndsInOrder group.source group.target) many groups arcs are.1 up.0)),
+  kept-ascend many groups arcs are.1 up.1,
+)
 
 pub groups-ascend : (raws : List RawArc) → Pairwise ArcInOrder raws → Pairwise GroupsInOrder (groups_of true raws)
 groups-ascend raws up = with-ascend raws (ends_of raws) (ends-ascend raws up)

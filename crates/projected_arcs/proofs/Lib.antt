@@ -3,6 +3,7 @@ pub mod EndLemmas
 pub mod FlatOrder
 pub mod GroupedLemmas
 pub mod KeptLemmas
+pub mod KindLemmas
 pub mod ListLemmas
 pub mod PlaceLemmas
 pub mod PlacedLemmas

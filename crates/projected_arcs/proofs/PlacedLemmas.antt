@@ -81,9 +81,10 @@ module _ (ids slots : List ℕ) (entry : RelFields) (are : AreSlots ids slots) w
   turned-placed : (orientation : Orientation) (place : ℕ) (rel : Rel) → IsJoined slots entry rel → AllByRecursion Placed (turned_flat orientation place rel)
   turned-placed Natural place rel joined = (record { source_found = found-source rel joined; target_found = found-target rel joined }, tt)
   turned-placed Reverse place rel joined = (record { source_found = found-target rel joined; target_found = found-source rel joined }, tt)
-  turned-placed Undirected place rel joined =
-      (record { source_found = found-source rel joined; target_found = found-target rel joined },
-      (record { source_found = found-target rel joined; target_found = found-source rel joined }, tt))
+  turned-placed Undirected place rel joined = (
+    record { source_found = found-source rel joined; target_found = found-target rel joined },
+    (record { source_found = found-target rel joined; target_found = found-source rel joined }, tt),
+  )
 
   flat-placed : (orientation : Orientation) (first : ℕ) (rels : List Rel) → AllByRecursion (IsJoined slots entry) rels → AllByRecursion Placed (flat_arcs orientation first rels)
   flat-placed orientation first [] joined = tt
@@ -107,10 +108,10 @@ pub flat-sorted : (ids slots : List ℕ) (arcs : List FlatArc) → IsStrictlyInc
 flat-sorted ids slots arcs up placed ascend =
     ends-sorted ids slots source_of target_of arcs up placed
     (λ k d within.
-      let a = get_or arcs k d in
-      let b = get_or arcs (k + 1) d in
-      in-order-from a.source a.target b.source b.target (eqb b.target a.target && nat_lt b.place a.place)
-      (sym (flat_before-is b a) ∙ Pairwise-at (λ a b. flat_before b a ≡ false) arcs k (k + 1) d (omega arith) within ascend))
+    let a = get_or arcs k d in
+    let b = get_or arcs (k + 1) d in
+    in-order-from a.source a.target b.source b.target (eqb b.target a.target && nat_lt b.place a.place)
+    (sym (flat_before-is b a) ∙ Pairwise-at (λ a b. flat_before b a ≡ false) arcs k (k + 1) d (omega arith) within ascend))
 
 -- ---- raw arcs
 

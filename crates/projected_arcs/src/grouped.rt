@@ -20,11 +20,7 @@ use rel_aggregate::{GroupRefusal, Grouped, RawArc, group};
 use std::alloc::Global;
 
 /// A cell for each property.
-fn cells_of(
-    alloc: Global,
-    stored: &[Prop],
-    props: &[RelProp],
-) -> Result<List<Option<i64>>, Mem>
+fn cells_of(alloc: Global, stored: &[Prop], props: &[RelProp]) -> Result<List<Option<i64>>, Mem>
     ensures { IfOk result (λ cells. cells ≡ cells_of stored.now props.now) }
 {
     let mut cells = Vec::with_capacity(alloc, props.len())?;
@@ -57,21 +53,38 @@ fn raw_arcs(
     Ok(raws)
 }
 
-/// Why a type can't be made of its arcs.
-fn refused(entry: &RelEntry, why: GroupRefusal) -> Result<Refusal, Mem> {
-    Ok(match why {
-        GroupRefusal::Sum {
-            source,
-            target,
-            key,
-        } => Refusal::SumOutOfRange {
+/// The arcs that are kept for the groups of an entry.
+///
+/// # Errors
+/// `SumOutOfRange` for the first group, and then its first key, whose sum leaves i64, or `Mem`.
+pub(crate) fn grouped_arcs(
+    alloc: Global,
+    rels: &[&Rel],
+    arcs: &[FlatArc],
+    entry: &RelEntry,
+) -> Result<List<Grouped>, Refusal>
+    requires within { All (IsWithin (length rels.now)) arcs.now }
+    requires ascending { Pairwise ArcInOrder (map (raw_of (map (λ rel. rel.now) rels.now) entry.now.props) arcs.now) }
+    ensures ok { IfOk result (λ kept. kept_arcs entry.now (map (raw_of (map (λ rel. rel.now) rels.now) entry.now.props) arcs.now) ≡ Ok kept) }
+    ensures refused { IfErr result (λ why. UnlessMem why (type_of entry.now (kept_arcs entry.now (map (raw_of (map (λ rel. rel.now) rels.now) entry.now.props) arcs.now)) ≡ Err why)) }
+{
+    let raws = raw_arcs(alloc, rels, arcs, entry.props.as_slice())?;
+    match group(alloc, raws.as_slice(), entry) {
+        Ok(kept) => Ok(kept),
+        Err(GroupRefusal::Mem) => Err(Refusal::Mem),
+        Err(
+            GroupRefusal::Sum {
+                source,
+                target,
+                key,
+            },
+        ) => Err(Refusal::SumOutOfRange {
             rel_type: entry.kind.try_clone()?,
             key,
             source,
             target,
-        },
-        GroupRefusal::Mem => Refusal::Mem,
-    })
+        }),
+    }
 }
 
 /// The places of the ends of arcs.
@@ -119,4 +132,25 @@ fn columns_of(
         columns.push((prop.key.try_clone()?, column_at(alloc, arcs, place)?))?;
     }
     Ok(List::from_vec(columns))
+}
+
+/// The rows of arcs that are kept for groups, among so many nodes.
+///
+/// # Errors
+/// `Mem` where there is no memory for them.
+pub(crate) fn grouped_rows(
+    alloc: Global,
+    nodes: u32,
+    places: &Places,
+    kept: &[Grouped],
+    props: &[RelProp],
+) -> Result<Csr, Mem>
+    requires below { All (LiesBelow nodes) (map (grouped_ends places.now) kept.now) }
+    requires ascend { IsSorted arc_cmp (map (grouped_ends places.now) kept.now) }
+    requires distinct { AreDistinct (map (λ prop. prop.key) props.now) }
+    ensures { IfOk result (λ csr. csr ≡ arc_rows_of nodes (map (grouped_ends places.now) kept.now) (grouped_columns kept.now 0 props.now)) }
+{
+    let columns = columns_of(alloc, kept, props)?;
+    let ends = ends_of(alloc, places, kept)?;
+    Csr::build(alloc, nodes, ends.as_slice(), columns)
 }
