@@ -58,3 +58,11 @@ returns-clause-full c = refl
 pub returns-clause-counter : goal.returns-clause-counter
 unfolding digits field_name first_field number_field whole_field text_field refusal_body
 returns-clause-counter c = refl
+
+pub returns-clause-fault : goal.returns-clause-fault
+unfolding digits field_name first_field number_field whole_field text_field refusal_body
+returns-clause-fault c = refl
+
+pub returns-clause-memory : goal.returns-clause-memory
+unfolding digits field_name first_field number_field whole_field text_field refusal_body
+returns-clause-memory c = refl
