@@ -1,0 +1,2 @@
+-- Named graphs of a user.
+pub mod Catalog
