@@ -1,9 +1,8 @@
 -- Changes keep that names ascend, that versions are distinct and were given, and that there are few graphs.
-use Rattle.std.proofs.Common.{◌≡◌, ◌≢◌, ℕ, ◌+◌, ◌<◌, ◌≤◌, Bool, true, false, cond, List, [], ◌∷◌, length, refl, sym, ap, ◌∙◌, Option, Some, None, suc, ⊎_elim, arith}
+use Rattle.std.proofs.Common.{◌≡◌, ◌≢◌, ℕ, ◌+◌, ◌<◌, ◌≤◌, true, false, cond, List, [], ◌∷◌, length, refl, sym, ap, ◌∙◌, None, suc, ⊎_elim, arith}
 use Rattle.std.specs.List.{AllByRecursion}
 use Rattle.std.specs.Prelude.{Result, Ok, Err, OnOk, OnErr}
 use Rattle.graph_model.specs.declared.refusal.Refusal.{Refusal}
-use Rattle.std.specs.Str.{bytes_eq}
 use Rattle.std.specs.Ordering.{nat_cmp, is_lt, ordering_reverse}
 use Rattle.std.specs.Cmp.Lexicographic.{slice_cmp, bytes_decides, nat_list_cmp_total}
 use Rattle.std.specs.declared.cmp.Ordering.{Ordering}
@@ -41,7 +40,7 @@ behind-no name e h other = reverse (slice_cmp nat_cmp name e.0) refl h
 
 -- ---- what stands under no name
 
-not_first : (name : List ℕ) (e : List ℕ × Entry) (entries : List (List ℕ × Entry)) → under name (e ∷ entries) ≡ None → is_named name e ≡ false
+pub not_first : (name : List ℕ) (e : List ℕ × Entry) (entries : List (List ℕ × Entry)) → under name (e ∷ entries) ≡ None → is_named name e ≡ false
 not_first name e entries none =
     ⊎_elim
     (λ (named : is_named name e ≡ true). absurd (let there = rw named at none in cc))

@@ -8,6 +8,9 @@
 
 mod catalog;
 mod entry;
+pub mod laws;
+#[cfg(test)]
+mod tests;
 
 pub use catalog::Catalog;
 pub use entry::Entry;

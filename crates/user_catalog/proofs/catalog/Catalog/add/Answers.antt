@@ -1,10 +1,6 @@
-use Rattle.std.proofs.Common.{◌≡◌, ◌+◌, ◌<◌, List, ℕ, Option, None, length, position, sym, ap, ◌∙◌, arith}
-use Rattle.std.specs.List.{insert}
-use Rattle.std.specs.Option.{unwrap_or}
+use Rattle.std.proofs.Common.{◌≡◌, ◌<◌, None, length, position, sym, ap, ◌∙◌, arith}
 use Rattle.graph_model.specs.Projection.{under}
-use Rattle.csr_columns.specs.declared.parts.Parts.{Parts}
-use Rattle.user_catalog.specs.declared.entry.Entry.{Entry}
-use Rattle.user_catalog.specs.Catalog.{NamedGraphs, named_graphs, is_behind, inserted, next_entry, after_insert, most_graphs}
+use Rattle.user_catalog.specs.Catalog.{NamedGraphs, named_graphs, is_behind, next_entry, after_insert, most_graphs}
 use Rattle.user_catalog.proofs.Places.{inserted-at}
 use Rattle.user_catalog.proofs.Valid.{catalog-inserted}
 use Rattle.user_catalog.proofs.catalog.Catalog.add.Goals as goal

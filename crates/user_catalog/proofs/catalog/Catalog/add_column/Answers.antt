@@ -1,4 +1,4 @@
-use Rattle.std.proofs.Common.{sym, ap, ◌∙◌, length, arith}
+use Rattle.std.proofs.Common.{sym, ap, ◌∙◌, length}
 use Rattle.user_catalog.proofs.Places.{written_back}
 use Rattle.user_catalog.proofs.Valid.{catalog-if_widened}
 use Rattle.user_catalog.proofs.catalog.Catalog.add_column.Goals as goal

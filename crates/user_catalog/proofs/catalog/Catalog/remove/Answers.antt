@@ -1,4 +1,4 @@
-use Rattle.std.proofs.Common.{◌≡◌, List, ℕ, Some, None, position, sym, ap, ◌∙◌}
+use Rattle.std.proofs.Common.{List, ℕ, Some, position, sym, ap, ◌∙◌}
 use Rattle.graph_model.specs.Projection.{under}
 use Rattle.user_catalog.specs.declared.entry.Entry.{Entry}
 use Rattle.user_catalog.specs.Catalog.{NamedGraphs, named_graphs, is_named, after_remove}
