@@ -84,7 +84,7 @@ impl Catalog {
     /// again. It takes no memory.
     pub fn remove(&mut self, name: &Tag) -> Option<Entry>
         ensures value { result ≡ under name.now self.old.entries }
-        ensures after { self.new ≡ after_remove self.old name.now }
+        ensures ok { self.new ≡ after_remove self.old name.now }
     {
         match entry::place_of(self.entries.as_slice(), name) {
             Some(place) => Some(self.entries.remove(place).1),

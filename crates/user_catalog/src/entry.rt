@@ -1,11 +1,11 @@
 // One named graph, and where its entry stands.
-ghost use Rattle.std.specs.Prelude.{◌≡◌, ◌<◌, ◌≤◌, length, position, unwrap_or, IfOk, IfErr, IfSome, OnOk, OnErr, None, Some, option_copied};
+ghost use Rattle.std.specs.Prelude.{◌≡◌, None, Some, position, IfOk, IfErr, OnOk, OnErr, option_copied};
 ghost use Rattle.graph_model.specs.Projection.{under};
 ghost use Rattle.graph_model.specs.Refusals.{UnlessMem};
 ghost use Rattle.user_catalog.specs.Catalog.{is_named, is_behind, wider, widened, refused_wider, refused_found};
 
 use csr_columns::Projection;
-use graph_model::{Column, Mem, Name, Refusal, Shared, Tag, TryClone};
+use graph_model::{Column, Name, Refusal, Shared, Tag, TryClone};
 use std::alloc::Global;
 
 /// A named graph: its version, counted from 1, and its projection, which copies share.

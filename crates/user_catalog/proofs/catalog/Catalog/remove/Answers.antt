@@ -25,8 +25,8 @@ returns-in-Some-clause-value c =
     ∙ sym (under-at name items place c.remove.result first)
     ∙ ap (λ (g : NamedGraphs). under name g.entries) c.self.view_is
 
-pub returns-in-Some-clause-after : goal.returns-in-Some-clause-after
-returns-in-Some-clause-after c =
+pub returns-in-Some-clause-ok : goal.returns-in-Some-clause-ok
+returns-in-Some-clause-ok c =
     let name = c.args.name.now in
     let items = c.self.inside.entries.items in
     let place = c.in-Some.place in
@@ -42,8 +42,8 @@ returns-in-None-clause-value c =
     sym (nowhere name items (ap (position (is_named name)) (sym c.as_slice.ensures.value) ∙ sym c.place_of.ensures ∙ c.in-None.is))
     ∙ ap (λ (g : NamedGraphs). under name g.entries) c.self.view_is
 
-pub returns-in-None-clause-after : goal.returns-in-None-clause-after
-returns-in-None-clause-after c =
+pub returns-in-None-clause-ok : goal.returns-in-None-clause-ok
+returns-in-None-clause-ok c =
     let name = c.args.name.now in
     let items = c.self.inside.entries.items in
     let none = nowhere name items (ap (position (is_named name)) (sym c.as_slice.ensures.value) ∙ sym c.place_of.ensures ∙ c.in-None.is) in
