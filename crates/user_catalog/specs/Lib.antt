@@ -1,0 +1,3 @@
+-- Named graphs of a user.
+pub mod Catalog
+pub mod Laws
