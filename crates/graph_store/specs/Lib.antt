@@ -5,6 +5,7 @@ pub mod Slots
 pub mod Created
 pub mod Edits
 pub mod Known
+pub mod NameRows
 pub mod Counted
 pub mod Stored
 pub mod Links

@@ -18,6 +18,7 @@ mod element;
 mod known;
 mod leaf;
 mod link;
+mod name_row;
 mod ordering;
 mod setting;
 mod slot;
