@@ -1,11 +1,16 @@
 -- Names with the number under each, in rows. The search for a name begins at the first row, turns high or low at each row
 -- of another name, and goes on at the row that follows there, which stands behind it.
---   turns_high name depth       whether the search for a name turns high after so many rows
---   next_place row high         the place of the row that follows on a turn
---   found_from                  what the search for a name finds in rows, where it looks for the row of a place
---   count_under rows name       the number under a name
---   IsSearchable rows           the search for a name finds the number under it
---   IsReached name front depth  the search for a name comes past rows
+--   turns_high name depth              whether the search for a name turns high after so many rows
+--   next_place row high                the place of the row that follows on a turn
+--   followed row high place            the row with another that follows it on a turn
+--   found_from                         what the search for a name finds in rows, where it looks for the row of a place
+--   row_count name row                 the number in a row, where it is that of a name
+--   count_under rows name              the number under a name
+--   told_count name row                the number in a row where it has a name, and else nothing
+--   IsSearchable rows                  the search for a name finds the number under it
+--   IsReached name front depth         the search for a name comes past rows
+--   EndsAt name rows place depth       the search for a name ends at a row
+--   GoesOn name rows place depth next  the search for a name goes on from a row to the next
 use Rattle.std.specs.Prelude.{◌≡◌, ℕ, ◌+◌, ◌/◌, ◌%◌, ◌^◌, ◌==◌, ◌<◌, ◌≤◌, ◌⊎◌, Bool, false, if◌then◌else◌, List, [], ◌∷◌, ◌++◌, length, Option, Some, None, unwrap_or, slice_index, slice_get, sum_by}
 use Rattle.std.specs.Str.{bytes_eq}
 use Rattle.graph_store.specs.declared.name_row.NameRow.{NameRow}
