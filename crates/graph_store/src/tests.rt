@@ -133,13 +133,19 @@ fn knows_letters(store: &Store, alloc: Global) -> Result<bool, Fail> {
     Ok(true)
 }
 
+// Whether all these labels are known once each was given to a node.
+fn letters_are_known(alloc: Global) -> Result<bool, Fail> {
+    let mut store = empty_store(alloc)?;
+    make_letters(&mut store, alloc)?;
+    knows_letters(&store, alloc)
+}
+
 #[test]
 fn small_store_is_told(rt: HostRuntime) -> Result<(), Fail> {
     let alloc = rt.alloc();
-    let mut store = small_store(alloc)?;
+    let store = small_store(alloc)?;
     assert_eq!(rt; counts(&store, alloc)?, [2, 1, 2, 1]);
-    make_letters(&mut store, alloc)?;
-    assert_eq!(rt; knows_letters(&store, alloc)?, true);
+    assert_eq!(rt; letters_are_known(alloc)?, true);
     Ok(())
 }
 
