@@ -1,10 +1,9 @@
 -- How often elements have a name, as elements come, go and have values set.
-use Rattle.std.proofs.Common.{◌≡◌, ℕ, ◌+◌, ◌-◌, ◌*◌, ◌<◌, Bool, true, false, cond, ◌||◌, List, [], ◌∷◌, ◌++◌, length, map, take, sum_by, Option, Some, None, refl, sym, ◌∙◌, ap, subst, arith}
+use Rattle.std.proofs.Common.{◌≡◌, ℕ, ◌+◌, ◌-◌, ◌*◌, ◌<◌, Bool, true, false, cond, ◌||◌, List, [], ◌∷◌, ◌++◌, length, map, take, get_or, sum_by, Option, Some, None, refl, sym, ◌∙◌, ap, subst, arith}
 use Rattle.std.specs.Prelude.{nat_lt}
 use Rattle.std.specs.List.{list_any}
 use Rattle.std.specs.Option.{option_map}
 use Rattle.std.specs.Str.{bytes_eq}
-use Rattle.std.specs.BTreeMap.{BTreeMap}
 use Rattle.std.proofs.lemmas.Bool.Decides.{nat_tests}
 use Rattle.std.proofs.lemmas.Grind.{common_steps}
 use Rattle.std.proofs.lemmas.List.Sums.{sum_by-cons, sum_by_more}
@@ -12,7 +11,9 @@ use Rattle.std.proofs.Math.Seq.{take-append_seam}
 use Rattle.graph_model.specs.declared.graph.Rel.{Rel}
 use Rattle.graph_model.specs.declared.graph.Prop.{Prop}
 use Rattle.graph_store.specs.Slots.{slot_at, living, slot_count}
-use Rattle.graph_store.specs.Counted.{times, count_under, own_name, prop_key, rel_classes, rel_props, key_weight, IsCounted}
+use Rattle.graph_store.specs.declared.name_row.NameRow.{NameRow}
+use Rattle.graph_store.specs.NameRows.{count_under}
+use Rattle.graph_store.specs.Counted.{times, own_name, prop_key, rel_classes, rel_props, key_weight, IsCounted}
 use Rattle.graph_store.specs.Edits.{WeighsSame}
 use Rattle.graph_model.specs.Known.{has_type, is_under_key}
 use Rattle.graph_store.proofs.SlotLemmas.{sum_by-living, sum_by-ones}
@@ -33,12 +34,12 @@ any-times : {A : Type 0} (name_of : A → List ℕ) (items : List A) (name : Lis
 any-times name_of items name = any-sum (λ item. bytes_eq name (name_of item)) (λ item. cond (bytes_eq name (name_of item)) 1 0) items (λ item. one (bytes_eq name (name_of item)))
 
 -- some element has a class where one is counted
-pub knows-class : {A : Type 0} (classes_of : A → List (List ℕ)) (props_of : A → List Prop) (slots : List (Option A)) (classes keys : BTreeMap (List ℕ) ℕ) (name : List ℕ) → IsCounted classes_of props_of slots classes keys → nat_lt 0 (count_under classes name) ≡ list_any (λ x. list_any (bytes_eq name) (classes_of x)) (living slots)
+pub knows-class : {A : Type 0} (classes_of : A → List (List ℕ)) (props_of : A → List Prop) (slots : List (Option A)) (classes keys : List NameRow) (name : List ℕ) → IsCounted classes_of props_of slots classes keys → nat_lt 0 (count_under classes name) ≡ list_any (λ x. list_any (bytes_eq name) (classes_of x)) (living slots)
 knows-class classes_of props_of slots classes keys name counted =
     rw (counted.classes_counted name, ← sum_by-living (λ x. times own_name (classes_of x) name) slots)
     (sym (any-sum (λ x. list_any (bytes_eq name) (classes_of x)) (λ x. times own_name (classes_of x) name) (living slots) (λ x. any-times own_name (classes_of x) name)))
 
-pub knows-key : {A : Type 0} (classes_of : A → List (List ℕ)) (props_of : A → List Prop) (slots : List (Option A)) (classes keys : BTreeMap (List ℕ) ℕ) (name : List ℕ) → IsCounted classes_of props_of slots classes keys → nat_lt 0 (count_under keys name) ≡ list_any (λ x. list_any (is_under_key name) (props_of x)) (living slots)
+pub knows-key : {A : Type 0} (classes_of : A → List (List ℕ)) (props_of : A → List Prop) (slots : List (Option A)) (classes keys : List NameRow) (name : List ℕ) → IsCounted classes_of props_of slots classes keys → nat_lt 0 (count_under keys name) ≡ list_any (λ x. list_any (is_under_key name) (props_of x)) (living slots)
 knows-key classes_of props_of slots classes keys name counted =
     rw (counted.keys_counted name, ← sum_by-living (λ x. times prop_key (props_of x) name) slots)
     (sym (any-sum (λ x. list_any (is_under_key name) (props_of x)) (λ x. times prop_key (props_of x) name) (living slots) (λ x. any-times prop_key (props_of x) name)))
@@ -52,7 +53,7 @@ list_any-agree : {A : Type 0} (p q : A → Bool) (xs : List A) → ((x : A) → 
 list_any-agree p q [] same = refl
 list_any-agree p q (x ∷ xs) same = let here = same x in let rest = list_any-agree p q xs same in cc
 
-pub knows-type : (rels : List (Option Rel)) (classes keys : BTreeMap (List ℕ) ℕ) (name : List ℕ) → IsCounted rel_classes rel_props rels classes keys → nat_lt 0 (count_under classes name) ≡ list_any (has_type name) (living rels)
+pub knows-type : (rels : List (Option Rel)) (classes keys : List NameRow) (name : List ℕ) → IsCounted rel_classes rel_props rels classes keys → nat_lt 0 (count_under classes name) ≡ list_any (has_type name) (living rels)
 knows-type rels classes keys name counted =
     knows-class rel_classes rel_props rels classes keys name counted
     ∙ list_any-agree (λ rel. list_any (bytes_eq name) (rel_classes rel)) (has_type name) (living rels) (λ rel. or-false (bytes_eq name rel.kind))
@@ -60,14 +61,14 @@ knows-type rels classes keys name counted =
 -- ---- elements come
 
 -- nothing is counted yet
-pub counted-none : {A : Type 0} (classes_of : A → List (List ℕ)) (props_of : A → List Prop) (slots : List (Option A)) (classes keys : BTreeMap (List ℕ) ℕ) → classes.entries ≡ [] → keys.entries ≡ [] → IsCounted classes_of props_of (take 0 slots) classes keys
+pub counted-none : {A : Type 0} (classes_of : A → List (List ℕ)) (props_of : A → List Prop) (slots : List (Option A)) (classes keys : List NameRow) → classes ≡ [] → keys ≡ [] → IsCounted classes_of props_of (take 0 slots) classes keys
 counted-none classes_of props_of slots classes keys no_classes no_keys = record {
   classes_counted = λ name. rw no_classes refl;
   keys_counted = λ name. rw no_keys refl;
 }
 
 -- the row of an element is counted
-pub counted-more : {A : Type 0} (classes_of : A → List (List ℕ)) (props_of : A → List Prop) (slots : List (Option A)) (row : ℕ) (x : A) (classes keys classes_after keys_after : BTreeMap (List ℕ) ℕ) → row < length slots → slot_at slots row ≡ Some x → IsCounted classes_of props_of (take row slots) classes keys
+pub counted-more : {A : Type 0} (classes_of : A → List (List ℕ)) (props_of : A → List Prop) (slots : List (Option A)) (row : ℕ) (x : A) (classes keys classes_after keys_after : List NameRow) → row < length slots → slot_at slots row ≡ Some x → IsCounted classes_of props_of (take row slots) classes keys
     → ((name : List ℕ) → count_under classes_after name ≡ count_under classes name + times own_name (classes_of x) name) → ((name : List ℕ) → count_under keys_after name ≡ count_under keys name + times prop_key (props_of x) name) → IsCounted classes_of props_of (take (row + 1) slots) classes_after keys_after
 counted-more classes_of props_of slots row x classes keys classes_after keys_after within is counted more_classes more_keys = record {
   classes_counted = λ name. let more = sum_by_more (slot_count (λ y. times own_name (classes_of y) name)) slots row None within in
@@ -77,7 +78,7 @@ counted-more classes_of props_of slots row x classes keys classes_after keys_aft
 }
 
 -- a row without an element counts nothing
-pub counted-dead : {A : Type 0} (classes_of : A → List (List ℕ)) (props_of : A → List Prop) (slots : List (Option A)) (row : ℕ) (classes keys : BTreeMap (List ℕ) ℕ) → row < length slots → slot_at slots row ≡ None → IsCounted classes_of props_of (take row slots) classes keys → IsCounted classes_of props_of (take (row + 1) slots) classes keys
+pub counted-dead : {A : Type 0} (classes_of : A → List (List ℕ)) (props_of : A → List Prop) (slots : List (Option A)) (row : ℕ) (classes keys : List NameRow) → row < length slots → slot_at slots row ≡ None → IsCounted classes_of props_of (take row slots) classes keys → IsCounted classes_of props_of (take (row + 1) slots) classes keys
 counted-dead classes_of props_of slots row classes keys within is counted = record {
   classes_counted = λ name. let more = sum_by_more (slot_count (λ y. times own_name (classes_of y) name)) slots row None within in
       counted.classes_counted name ∙ sym (let more_is = rw is at more in omega (arith, more_is));
@@ -86,13 +87,13 @@ counted-dead classes_of props_of slots row classes keys within is counted = reco
 }
 
 -- what was counted is counted where elements stand behind the others
-pub counted-front : {A : Type 0} (classes_of : A → List (List ℕ)) (props_of : A → List Prop) (slots news after : List (Option A)) (count : ℕ) (classes keys : BTreeMap (List ℕ) ℕ) → after ≡ slots ++ news → count ≡ length slots → IsCounted classes_of props_of slots classes keys → IsCounted classes_of props_of (take count after) classes keys
+pub counted-front : {A : Type 0} (classes_of : A → List (List ℕ)) (props_of : A → List Prop) (slots news after : List (Option A)) (count : ℕ) (classes keys : List NameRow) → after ≡ slots ++ news → count ≡ length slots → IsCounted classes_of props_of slots classes keys → IsCounted classes_of props_of (take count after) classes keys
 counted-front classes_of props_of slots news after count classes keys is same counted =
     let front : take count after ≡ slots = rw (is, same) (take-append_seam slots news) in
     subst (λ rows. IsCounted classes_of props_of rows classes keys) (sym front) counted
 
 -- copies
-pub counted-same : {A : Type 0} (classes_of : A → List (List ℕ)) (props_of : A → List Prop) (slots after : List (Option A)) (classes keys classes_after keys_after : BTreeMap (List ℕ) ℕ) → after ≡ slots → classes_after ≡ classes → keys_after ≡ keys → IsCounted classes_of props_of slots classes keys → IsCounted classes_of props_of after classes_after keys_after
+pub counted-same : {A : Type 0} (classes_of : A → List (List ℕ)) (props_of : A → List Prop) (slots after : List (Option A)) (classes keys classes_after keys_after : List NameRow) → after ≡ slots → classes_after ≡ classes → keys_after ≡ keys → IsCounted classes_of props_of slots classes keys → IsCounted classes_of props_of after classes_after keys_after
 counted-same classes_of props_of slots after classes keys classes_after keys_after same same_classes same_keys counted = record {
   classes_counted = λ name. rw (same, same_classes) (counted.classes_counted name);
   keys_counted = λ name. rw (same, same_keys) (counted.keys_counted name);
@@ -100,7 +101,13 @@ counted-same classes_of props_of slots after classes keys classes_after keys_aft
 
 -- ---- elements go
 
-pub counted-gone : {A : Type 0} (classes_of : A → List (List ℕ)) (props_of : A → List Prop) (slots left : List (Option A)) (gone : List A) (classes keys classes_after keys_after : BTreeMap (List ℕ) ℕ) → IsCounted classes_of props_of slots classes keys → WeighsSame slots left gone
+-- one more is gone
+pub fewer-more : {A : Type 0} (weight : A → ℕ) (gone : List A) (row : ℕ) (x item : A) (before now after : ℕ) → row < length gone → item ≡ get_or gone row item → x ≡ item → now ≡ before - sum_by weight (take row gone) → after ≡ now - weight x → after ≡ before - sum_by weight (take (row + 1) gone)
+fewer-more weight gone row x item before now after within is same so_far less =
+    let here : weight x ≡ weight (get_or gone row item) = ap weight (same ∙ is) in
+    omega (arith, sum_by_more weight gone row item within, here, so_far, less)
+
+pub counted-gone : {A : Type 0} (classes_of : A → List (List ℕ)) (props_of : A → List Prop) (slots left : List (Option A)) (gone : List A) (classes keys classes_after keys_after : List NameRow) → IsCounted classes_of props_of slots classes keys → WeighsSame slots left gone
     → ((name : List ℕ) → count_under classes_after name ≡ count_under classes name - sum_by (λ x. times own_name (classes_of x) name) gone) → ((name : List ℕ) → count_under keys_after name ≡ count_under keys name - sum_by (λ x. times prop_key (props_of x) name) gone) → IsCounted classes_of props_of left classes_after keys_after
 counted-gone classes_of props_of slots left gone classes keys classes_after keys_after counted same fewer_classes fewer_keys = record {
   classes_counted = λ name. omega (arith, fewer_classes name, counted.classes_counted name, same (λ x. times own_name (classes_of x) name));
@@ -136,7 +143,7 @@ times_one : (n : ℕ) (b : Bool) → n * cond b 1 0 ≡ cond b n 0
 times_one n true = omega arith
 times_one n false = omega arith
 
-pub counted-set : {A : Type 0} (classes_of : A → List (List ℕ)) (props_of : A → List Prop) (change : A → A) (key : List ℕ) (added : ℕ) (slots after : List (Option A)) (classes keys classes_after keys_after : BTreeMap (List ℕ) ℕ) → ((x : A) → classes_of (change x) ≡ classes_of x) → after ≡ map (option_map change) slots
+pub counted-set : {A : Type 0} (classes_of : A → List (List ℕ)) (props_of : A → List Prop) (change : A → A) (key : List ℕ) (added : ℕ) (slots after : List (Option A)) (classes keys classes_after keys_after : List NameRow) → ((x : A) → classes_of (change x) ≡ classes_of x) → after ≡ map (option_map change) slots
     → ((weight : List ℕ → ℕ) → sum_by (slot_count (λ x. key_weight weight (props_of x))) after ≡ sum_by (slot_count (λ x. key_weight weight (props_of x))) slots + added * weight key)
     → classes_after ≡ classes → ((name : List ℕ) → count_under keys_after name ≡ count_under keys name + cond (bytes_eq name key) added 0) → IsCounted classes_of props_of slots classes keys → IsCounted classes_of props_of after classes_after keys_after
 counted-set classes_of props_of change key added slots after classes keys classes_after keys_after stays is keyed same_classes more_keys counted = record {

@@ -6,7 +6,7 @@ pub mod Placing
 pub mod SettingLemmas
 pub mod EditLemmas
 pub mod OrderLemmas
-pub mod TallyLemmas
+pub mod SearchLemmas
 pub mod ValidValues
 pub mod ValidLaws
 pub mod ChangeLemmas

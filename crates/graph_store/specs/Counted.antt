@@ -1,25 +1,19 @@
 -- How often the elements in slots have a name: a class (a label of a node, the type of a relationship), or a key.
 --   times name_of items name     how often a name stands among items that have one
---   count_under counts name      the number under a name
 --   key_weight weight props      how much the keys of values weigh
 --   IsCounted                    under each name stands how often the elements have it
-use Rattle.std.specs.Prelude.{◌≡◌, ℕ, List, [], ◌∷◌, count_by, sum_by, Option, unwrap_or}
-use Rattle.std.specs.Ordering.{nat_cmp}
-use Rattle.std.specs.Cmp.Lexicographic.{slice_cmp}
+use Rattle.std.specs.Prelude.{◌≡◌, ℕ, List, [], ◌∷◌, count_by, sum_by, Option}
 use Rattle.std.specs.Str.{bytes_eq}
-use Rattle.std.specs.BTreeMap.{BTreeMap, get}
 use Rattle.graph_model.specs.declared.graph.Node.{Node}
 use Rattle.graph_model.specs.declared.graph.Rel.{Rel}
 use Rattle.graph_model.specs.declared.graph.Prop.{Prop}
+use Rattle.graph_store.specs.declared.name_row.NameRow.{NameRow}
 use Rattle.graph_store.specs.Slots.{slot_count}
+use Rattle.graph_store.specs.NameRows.{count_under}
 
 -- how often a name stands among items that have one
 abbrev pub times : {A : Type 0} → (A → List ℕ) → List A → List ℕ → ℕ
 times name_of items name = count_by (λ item. bytes_eq name (name_of item)) items
-
--- the number under a name, and 0 where there is none
-abbrev pub count_under : BTreeMap (List ℕ) ℕ → List ℕ → ℕ
-count_under counts name = unwrap_or (get (slice_cmp nat_cmp) counts name) 0
 
 -- a name itself
 abbrev pub own_name : List ℕ → List ℕ
@@ -49,6 +43,6 @@ abbrev pub key_weight : (List ℕ → ℕ) → List Prop → ℕ
 key_weight weight props = sum_by (λ prop. weight prop.key) props
 
 -- under each name stands how often the elements in the slots have it
-pub record IsCounted {A : Type 0} (classes_of : A → List (List ℕ)) (props_of : A → List Prop) (slots : List (Option A)) (classes keys : BTreeMap (List ℕ) ℕ) : Type 0 where
+pub record IsCounted {A : Type 0} (classes_of : A → List (List ℕ)) (props_of : A → List Prop) (slots : List (Option A)) (classes keys : List NameRow) : Type 0 where
   pub classes_counted : (name : List ℕ) → count_under classes name ≡ sum_by (slot_count (λ x. times own_name (classes_of x) name)) slots
   pub keys_counted : (name : List ℕ) → count_under keys name ≡ sum_by (slot_count (λ x. times prop_key (props_of x) name)) slots

@@ -4,6 +4,7 @@ pub mod Missing
 pub mod Slots
 pub mod Created
 pub mod Edits
+pub mod NameRows
 pub mod Counted
 pub mod Stored
 pub mod Links

@@ -3,7 +3,6 @@ ghost use Rattle.std.specs.Prelude.{◌≡◌};
 ghost use Rattle.graph_model.specs.Known.{knows_label, knows_type, knows_node_key, knows_rel_key};
 
 use crate::store::{Snapshot, Store};
-use crate::tally::is_counted;
 use graph_model::Name;
 
 impl Store {
@@ -11,28 +10,28 @@ impl Store {
     pub fn knows_label(&self, name: &Name) -> bool
         ensures { result ≡ knows_label self.now name.now }
     {
-        is_counted(self.node_names.classes.get(), name)
+        self.node_names.classes.is_counted(name)
     }
 
     /// Whether some live relationship is of a type.
     pub fn knows_type(&self, name: &Name) -> bool
         ensures { result ≡ knows_type self.now name.now }
     {
-        is_counted(self.rel_names.classes.get(), name)
+        self.rel_names.classes.is_counted(name)
     }
 
     /// Whether some live node stores a key.
     pub fn knows_node_key(&self, name: &Name) -> bool
         ensures { result ≡ knows_node_key self.now name.now }
     {
-        is_counted(self.node_names.keys.get(), name)
+        self.node_names.keys.is_counted(name)
     }
 
     /// Whether some live relationship stores a key.
     pub fn knows_rel_key(&self, name: &Name) -> bool
         ensures { result ≡ knows_rel_key self.now name.now }
     {
-        is_counted(self.rel_names.keys.get(), name)
+        self.rel_names.keys.is_counted(name)
     }
 }
 

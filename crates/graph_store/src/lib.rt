@@ -5,7 +5,8 @@
 //! Rows stand in leaves of 1,024, and 1,024 leaves in a branch: a change copies the list of branches of each table that it
 //! touches, and each branch's list of leaves and each leaf that it touches, once, and shares the rest with the store and
 //! its snapshots. The relationships that begin at a node are found by links, from the last to the first. Which labels, types
-//! and keys live elements have (`specs/Known`) is told by counts under each name, which snapshots share.
+//! and keys live elements have (`specs/Known`) is told by counts under each name. They stand in such a table too, each name
+//! with its count in a row, which is found from row to row by the bits of the name (`specs/NameRows`).
 #![tactic(auto)]
 
 mod branch;
@@ -18,6 +19,7 @@ mod element;
 mod known;
 mod leaf;
 mod link;
+mod name_row;
 mod ordering;
 mod setting;
 mod slot;

@@ -98,11 +98,54 @@ fn counts(store: &Store, alloc: Global) -> Result<[usize; 4], Mem> {
     ])
 }
 
+// One new node with a label of one letter.
+fn labelled_node(alloc: Global, letter: u8) -> Result<Change, Fail>
+    ensures { IfOk result IsWellFormedChange }
+{
+    let mut labels = List::new(alloc);
+    labels.push(name(alloc, &[letter])?)?;
+    let mut nodes = List::new(alloc);
+    nodes.push(NewNode {
+        labels,
+        props: List::new(alloc),
+    })?;
+    Ok(Change::Create {
+        nodes,
+        rels: List::new(alloc),
+    })
+}
+
+// Makes a node for each small letter, with the letter as its label.
+fn make_letters(store: &mut Store, alloc: Global) -> Result<(), Fail> {
+    for letter in b'a'..b'{' {
+        make(store, alloc, &labelled_node(alloc, letter)?)?;
+    }
+    Ok(())
+}
+
+// Whether a store knows each of these labels.
+fn knows_letters(store: &Store, alloc: Global) -> Result<bool, Fail> {
+    for letter in b'a'..b'{' {
+        if !store.knows_label(&name(alloc, &[letter])?) {
+            return Ok(false);
+        }
+    }
+    Ok(true)
+}
+
+// Whether all these labels are known once each was given to a node.
+fn letters_are_known(alloc: Global) -> Result<bool, Fail> {
+    let mut store = empty_store(alloc)?;
+    make_letters(&mut store, alloc)?;
+    knows_letters(&store, alloc)
+}
+
 #[test]
 fn small_store_is_told(rt: HostRuntime) -> Result<(), Fail> {
     let alloc = rt.alloc();
     let store = small_store(alloc)?;
     assert_eq!(rt; counts(&store, alloc)?, [2, 1, 2, 1]);
+    assert_eq!(rt; letters_are_known(alloc)?, true);
     Ok(())
 }
 

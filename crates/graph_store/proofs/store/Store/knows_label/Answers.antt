@@ -4,4 +4,4 @@ use Rattle.graph_store.proofs.CensusLemmas.{knows-class}
 use Rattle.graph_store.proofs.store.Store.knows_label.Goals as goal
 
 pub returns : goal.returns
-returns c = rw (← c.self.view_is) ((rw c.get.ensures at c.is_counted.ensures) ∙ knows-class node_classes node_props c.self.inside.nodes c.self.inside.node_names.classes c.self.inside.node_names.keys c.args.name.now c.self.invariant.nodes_counted)
+returns c = rw (← c.self.view_is) (c.is_counted.ensures ∙ knows-class node_classes node_props c.self.inside.nodes c.self.inside.node_names.classes c.self.inside.node_names.keys c.args.name.now c.self.invariant.nodes_counted)

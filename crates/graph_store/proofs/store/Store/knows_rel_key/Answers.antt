@@ -4,4 +4,4 @@ use Rattle.graph_store.proofs.CensusLemmas.{knows-key}
 use Rattle.graph_store.proofs.store.Store.knows_rel_key.Goals as goal
 
 pub returns : goal.returns
-returns c = rw (← c.self.view_is) ((rw c.get.ensures at c.is_counted.ensures) ∙ knows-key rel_classes rel_props c.self.inside.rels c.self.inside.rel_names.classes c.self.inside.rel_names.keys c.args.name.now c.self.invariant.rels_counted)
+returns c = rw (← c.self.view_is) (c.is_counted.ensures ∙ knows-key rel_classes rel_props c.self.inside.rels c.self.inside.rel_names.classes c.self.inside.rel_names.keys c.args.name.now c.self.invariant.rels_counted)
