@@ -39,7 +39,7 @@ length-flat_maps f g a (suc n) long =
     omega (arith, here, later, length-append (f a) (flat_map f (range_with_len (a + 1) n)), length-append (g a) (flat_map g (range_with_len (a + 1) n)))
 
 -- rows, by their places
-listed-rows : {X : Type 0} (rows : List (List X)) → listed rows ≡ flat_map (row_at rows) (range_with_len 0 (length rows))
+pub listed-rows : {X : Type 0} (rows : List (List X)) → listed rows ≡ flat_map (row_at rows) (range_with_len 0 (length rows))
 listed-rows {X} rows =
     ap listed (fill_by_all (row_at rows) rows (length rows) [] refl (λ k h. refl))
     ∙ flat_map-map (λ (row : List X). row) (row_at rows) (range_with_len 0 (length rows))
@@ -93,7 +93,7 @@ module _ (places : List (Option ℕ)) where
   first-moved value None entries = refl
   first-moved value (Some arc) entries = refl
 
-  arcs-moved : (arcs : List (ℕ × ℕ)) (values : List ℤ) → length values ≡ length arcs → map arc_beside (filter_map (moved_with places) (zip arcs values)) ≡ filter_map (moved places) arcs
+  pub arcs-moved : (arcs : List (ℕ × ℕ)) (values : List ℤ) → length values ≡ length arcs → map arc_beside (filter_map (moved_with places) (zip arcs values)) ≡ filter_map (moved places) arcs
   arcs-moved [] values long = refl
   arcs-moved (arc ∷ arcs) [] long = absurd (omega arith)
   arcs-moved (arc ∷ arcs) (value ∷ values) long =
@@ -147,12 +147,12 @@ arcs-taken places key (type ∷ types) has beside =
     ∙ ap (λ (xs : List (ℕ × ℕ)). taken_arcs places type ++ xs) (arcs-taken places key types (both-second (has_column key type) (list_all (has_column key) types) has) (All-tail (HasValuesBeside key) type types beside))
 
 -- pairs, taken apart and put side by side
-zip-pairs : {X Y : Type 0} (entries : List (X × Y)) → zip (map (λ (e : X × Y). e.0) entries) (map (λ (e : X × Y). e.1) entries) ≡ entries
+pub zip-pairs : {X Y : Type 0} (entries : List (X × Y)) → zip (map (λ (e : X × Y). e.0) entries) (map (λ (e : X × Y). e.1) entries) ≡ entries
 zip-pairs [] = refl
 zip-pairs {X} {Y} (entry ∷ entries) = ap (λ (es : List (X × Y)). entry ∷ es) (zip-pairs entries)
 
 -- the arcs of ordered entries are the ordered arcs
-ordered-arcs : (nodes : ℕ) (entries : List ((ℕ × ℕ) × ℤ)) → ordered itself nodes (map arc_beside entries) ≡ map arc_beside (ordered arc_beside nodes entries)
+pub ordered-arcs : (nodes : ℕ) (entries : List ((ℕ × ℕ) × ℤ)) → ordered itself nodes (map arc_beside entries) ≡ map arc_beside (ordered arc_beside nodes entries)
 ordered-arcs nodes entries =
     ap (grouped (source_by itself) nodes) (grouped-map (target_by itself) (target_by arc_beside) arc_beside nodes entries (λ x. refl))
     ∙ grouped-map (source_by itself) (source_by arc_beside) arc_beside nodes (grouped (target_by arc_beside) nodes entries) (λ x. refl)

@@ -1,6 +1,7 @@
 -- Nodes that are kept, and the places that they get.
 --   kept_of kept items       the items whose flags are true
 --   renumbered n kept        for each flag its number among the true ones, from n on, where it is true
+--   kept_places n kept       the places of the true flags, where the first stands at n
 --   moved places arc         an arc between places as one between the places that its ends get, where both get one
 --   taken_arcs places type   the arcs of a type whose ends both get places
 --   taken_of places key type the same with their values under a key
@@ -22,6 +23,12 @@ abbrev pub renumbered : ℕ → List Bool → List (Option ℕ)
 renumbered n [] = []
 renumbered n (true ∷ flags) = Some n ∷ renumbered (n + 1) flags
 renumbered n (false ∷ flags) = None ∷ renumbered n flags
+
+-- the places of the true flags, where the first stands at n
+abbrev pub kept_places : ℕ → List Bool → List ℕ
+kept_places n [] = []
+kept_places n (true ∷ flags) = n ∷ kept_places (n + 1) flags
+kept_places n (false ∷ flags) = kept_places (n + 1) flags
 
 -- the place that a node gets
 abbrev pub new_place : List (Option ℕ) → ℕ → Option ℕ

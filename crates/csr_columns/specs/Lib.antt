@@ -8,3 +8,4 @@ pub mod Plain
 pub mod ViewParts
 pub mod Keeping
 pub mod Choosing
+pub mod Merging

@@ -1,12 +1,14 @@
 // Arcs by source, in columns.
-ghost use Rattle.std.specs.Prelude.{◌≡◌, ◌^◌, ◌<◌, true, [], length, map, sum_by, All, MatchOption, IfOk, IfSome, None, Some, option_copied};
-ghost use Rattle.std.specs.List.{zip};
+ghost use Rattle.std.specs.Prelude.{◌≡◌, ◌<◌, ◌≤◌, true, [], length, map, sum_by, All, MatchOption, IfOk, IfSome, None, Some, option_copied};
 ghost use Rattle.std.specs.List.Sorted.{IsSorted};
-ghost use Rattle.csr_columns.specs.Rows.{HasTargetsBelow, IsBeside, names_of, LiesBelow, AreDistinct, arc_cmp, arc_rows_of, row_at, column_at, row_in, arcs_of, listed_column, turned_rows};
-ghost use Rattle.csr_columns.specs.Order.{HasAscendingRows, ordered, ordered_column, itself};
-ghost use Rattle.graph_model.specs.Projection.{is_among, under};
+ghost use Rattle.csr_columns.specs.Rows.{HasTargetsBelow, IsBeside, names_of, LiesBelow, AreDistinct, arc_cmp, arc_rows_of, row_at, column_at, row_in, turned_rows};
+ghost use Rattle.csr_columns.specs.Order.{HasAscendingRows};
+ghost use Rattle.csr_columns.specs.Parts.{arcs_in_rows};
+ghost use Rattle.csr_columns.specs.Keeping.{HasPlacesBelow};
+ghost use Rattle.csr_columns.specs.Merging.{HasRows, merged_row, merged_rows};
+ghost use Rattle.graph_model.specs.Projection.{is_among, most_arcs, under};
 
-use crate::ordering::{self, Order};
+use crate::merging::{self, TypeRows};
 use crate::turning::{self, Turning};
 use crate::{columns, counting};
 use graph_model::{List, Mem, Name, TryClone};
@@ -85,32 +87,33 @@ impl Csr {
         })
     }
 
-    /// The rows of arcs that stand in any order, each in ascending order of target, with the columns in the arcs' order.
-    /// Equal arcs keep their order.
-    pub(crate) fn ordered(
+    /// The rows of kept nodes, merged from rows of several types, with their weights under a key where there is one.
+    ///
+    /// # Errors
+    /// `Mem` where there is no memory, and where there are more than 67,108,864 arcs.
+    pub(crate) fn merged(
         alloc: Global,
         nodes: u32,
-        ends: &[(u32, u32)],
-        keys: List<Name>,
-        columns: &[List<i64>],
+        types: &[TypeRows],
+        places: &[Option<u32>],
+        kept: &[u32],
+        key: Option<&Name>,
     ) -> Result<Csr, Mem>
-        requires few { length ends.now < 2 ^ 32 }
-        requires below { All (LiesBelow nodes) ends.now }
-        requires beside { All (λ column. length column ≡ length ends.now) columns.now }
-        requires named { length keys ≡ length columns.now }
-        requires distinct { AreDistinct keys }
-        ensures nodes { IfOk result (λ csr. length csr.rows ≡ nodes) }
-        ensures many { IfOk result (λ csr. sum_by length csr.rows ≡ length ends.now) }
-        ensures arcs { IfOk result (λ csr. arcs_of csr.rows ≡ ordered itself nodes ends.now) }
-        ensures columns { IfOk result (λ csr. map listed_column csr.columns ≡ map (ordered_column nodes ends.now) (zip keys columns.now)) }
+        requires rows { All (HasRows (length places.now)) types.now }
+        requires places { HasPlacesBelow nodes places.now }
+        requires kept { All (λ v. v < length places.now) kept.now }
+        requires many { length kept.now ≡ nodes }
+        ensures rows { IfOk result (λ csr. csr ≡ merged_rows (option_copied key.entry) (map (merged_row nodes places.now types.now) kept.now)) }
+        ensures few { IfOk result (λ csr. arcs_in_rows csr ≤ most_arcs) }
     {
-        let Order { offsets, places } = ordering::put_in_order(alloc, nodes, ends)?;
-        let targets = counting::targets(alloc, ends)?;
+        let rows = merging::merge(alloc, nodes, types, places, kept, key.is_some())?;
+        let keys = columns::keys_under(alloc, key)?;
+        let columns = columns::values_under(alloc, key, rows.weights)?;
         Ok(Csr {
-            offsets,
-            targets: columns::pick(alloc, &targets, &places)?,
+            offsets: rows.offsets,
+            targets: rows.targets,
             keys,
-            columns: columns::pick_each(alloc, columns, &places)?,
+            columns,
         })
     }
 
