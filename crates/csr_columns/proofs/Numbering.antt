@@ -48,9 +48,22 @@ only-place n m (true ∷ flags) (suc v) (suc s) is =
 only-place n m (false ∷ flags) zero s is = absurd cc
 only-place n m (false ∷ flags) (suc v) s is = let rest = only-place (n + 1) m flags v s is in (rest.0, omega (arith, rest.1))
 
+-- where all are kept, each gets its own place
+few-places : (n : ℕ) (flags : List Bool) → length (kept_places n flags) ≤ length flags
+few-places n [] = omega arith
+few-places n (true ∷ flags) = omega (arith, few-places (n + 1) flags)
+few-places n (false ∷ flags) = omega (arith, few-places (n + 1) flags)
+
+whole-places : (n m : ℕ) (flags : List Bool) (v : ℕ) → length (kept_places n flags) ≡ length flags → v < length flags → new_place (renumbered m flags) v ≡ Some (m + v)
+whole-places n m [] v all h = absurd (omega arith)
+whole-places n m (true ∷ flags) zero all h = ap (λ (k : ℕ). Some k) (omega arith)
+whole-places n m (true ∷ flags) (suc v) all h = whole-places (n + 1) (m + 1) flags v (omega arith) (omega arith) ∙ ap (λ (k : ℕ). Some k) (omega arith)
+whole-places n m (false ∷ flags) v all h = absurd (omega (arith, few-places (n + 1) flags))
+
 pub IsNumbering-kept : (flags : List Bool) → IsNumbering (renumbered 0 flags) (kept_places 0 flags)
 IsNumbering-kept flags = record {
   below = λ s h. omega (arith, (places-within 0 flags s h).1, length-renumbered 0 flags);
   own = λ s h. own-place 0 0 flags s (get_or (kept_places 0 flags) s 0) h (omega arith) ∙ ap (λ (k : ℕ). Some k) (omega arith);
   only = λ v s is. let rest = only-place 0 0 flags v s (is ∙ ap (λ (k : ℕ). Some k) (omega arith)) in (rest.0, omega (arith, rest.1));
+  whole = λ all v h. whole-places 0 0 flags v (omega (arith, all, length-renumbered 0 flags)) (omega (arith, length-renumbered 0 flags)) ∙ ap (λ (k : ℕ). Some k) (omega arith);
 }

@@ -5,7 +5,7 @@ ghost use Rattle.csr_columns.specs.Rows.{HasTargetsBelow, IsBeside, names_of, Li
 ghost use Rattle.csr_columns.specs.Order.{HasAscendingRows};
 ghost use Rattle.csr_columns.specs.Parts.{arcs_in_rows};
 ghost use Rattle.csr_columns.specs.Keeping.{HasPlacesBelow};
-ghost use Rattle.csr_columns.specs.Merging.{HasRows, merged_row, merged_rows};
+ghost use Rattle.csr_columns.specs.Merging.{HasRows, IsNumbering, merged_row, merged_rows};
 ghost use Rattle.graph_model.specs.Projection.{is_among, most_arcs, under};
 
 use crate::merging::{self, TypeRows};
@@ -101,7 +101,7 @@ impl Csr {
     ) -> Result<Csr, Mem>
         requires rows { All (HasRows (length places.now)) types.now }
         requires places { HasPlacesBelow nodes places.now }
-        requires kept { All (λ v. v < length places.now) kept.now }
+        requires kept { IsNumbering places.now kept.now }
         requires many { length kept.now ≡ nodes }
         ensures rows { IfOk result (λ csr. csr ≡ merged_rows (option_copied key.entry) (map (merged_row nodes places.now types.now) kept.now)) }
         ensures few { IfOk result (λ csr. arcs_in_rows csr ≤ most_arcs) }

@@ -1,5 +1,4 @@
-use Rattle.std.proofs.Common.{length, Some, arith}
-use Rattle.std.proofs.lemmas.List.{get_or_default}
+use Rattle.std.proofs.Common.{length, Some}
 use Rattle.std.proofs.lemmas.List.Elements.{All-filter}
 use Rattle.csr_columns.specs.Parts.{HasNodes}
 use Rattle.csr_columns.specs.Choosing.{chosen, chooses_kind}
@@ -10,9 +9,6 @@ pub merged-requires-clause-rows : goal.merged-requires-clause-rows
 merged-requires-clause-rows c =
     rw (c.deref.ensures.value, c.in_ok-rows.ensures.rows)
     (chosen-rows (length c.args.places.now) (Some c.args.key.now) c.args.choice.now c.args.types.now c.requires.rows)
-
-pub merged-requires-clause-kept : goal.merged-requires-clause-kept
-merged-requires-clause-kept c = λ k d h. omega (arith, c.requires.kept.below k h, get_or_default c.args.kept.now k d 0 h)
 
 pub returns-clause-entries : goal.returns-clause-entries
 returns-clause-entries c =
