@@ -5,7 +5,7 @@
 --   moved places arc         an arc between places as one between the places that its ends get, where both get one
 --   taken_arcs places type   the arcs of a type whose ends both get places
 --   taken_of places key type the same with their values under a key
-use Rattle.std.specs.Prelude.{◌≡◌, ℕ, ℤ, ◌+◌, ◌<◌, Bool, true, false, List, [], ◌∷◌, map, slice_index_or, Option, None, Some, IfSome}
+use Rattle.std.specs.Prelude.{◌≡◌, ℕ, ℤ, ◌+◌, ◌<◌, Bool, true, false, List, [], ◌∷◌, slice_index_or, Option, None, Some, IfSome}
 use Rattle.std.specs.List.{filter_map, zip}
 use Rattle.graph_model.specs.Projection.{under}
 use Rattle.csr_columns.specs.Rows.{HasTargetsBelow, IsBeside, arcs_of, listed}
@@ -52,18 +52,6 @@ beside_arc value (Some arc) = Some (arc, value)
 abbrev pub moved_with : {A : Type 0} → List (Option ℕ) → (ℕ × ℕ) × A → Option ((ℕ × ℕ) × A)
 moved_with places entry = beside_arc entry.1 (moved places entry.0)
 
--- an arc from a place to the place that its target gets
-abbrev pub moved_from : List (Option ℕ) → ℕ → ℕ → Option (ℕ × ℕ)
-moved_from places source target = both_ends (Some source) (new_place places target)
-
--- the value beside an arc whose target gets a place
-abbrev pub value_if : ℤ → Option ℕ → Option ℤ
-value_if value None = None
-value_if value (Some place) = Some value
-
-abbrev pub value_from : List (Option ℕ) → ℕ × ℤ → Option ℤ
-value_from places entry = value_if entry.1 (new_place places entry.0)
-
 -- the arcs of a type whose ends both get places
 abbrev pub taken_arcs : List (Option ℕ) → TypeColumns → List (ℕ × ℕ)
 taken_arcs places type = filter_map (moved places) (arcs_of type.arcs.rows)
@@ -84,10 +72,6 @@ rows_under (Some column) = column
 -- the arcs of a type whose ends both get places, with their values under a key
 abbrev pub taken_of : List (Option ℕ) → List ℕ → TypeColumns → List ((ℕ × ℕ) × ℤ)
 taken_of places key type = taken_entries places type.arcs.rows (rows_under (under key type.arcs.columns))
-
--- the values alone
-abbrev pub values_beside : {A : Type 0} → List (A × ℤ) → List ℤ
-values_beside entries = map (λ entry. entry.1) entries
 
 -- the targets of the arcs of a type lie below its number of nodes
 abbrev pub HasArcsBelow : TypeColumns → Type 0
