@@ -1,4 +1,4 @@
-// Arcs by source, in columns.
+// Arcs by source, in columns that copies share.
 ghost use Rattle.std.specs.Prelude.{◌≡◌, ◌<◌, ◌≤◌, true, [], length, map, sum_by, All, MatchOption, IfOk, IfSome, None, Some, option_copied};
 ghost use Rattle.std.specs.List.Sorted.{IsSorted};
 ghost use Rattle.csr_columns.specs.Rows.{HasTargetsBelow, IsBeside, names_of, LiesBelow, AreDistinct, arc_cmp, arc_rows_of, row_at, column_at, row_in, turned_rows};
@@ -8,34 +8,38 @@ ghost use Rattle.csr_columns.specs.Keeping.{HasPlacesBelow};
 ghost use Rattle.csr_columns.specs.Merging.{HasRows, IsNumbering, merged_row, merged_rows};
 ghost use Rattle.graph_model.specs.Projection.{is_among, most_arcs, under};
 
-use crate::merging::{self, TypeRows};
-use crate::turning::{self, Turning};
-use crate::{columns, counting};
-use graph_model::{List, Mem, Name, TryClone};
+use crate::arc_columns::ArcColumns;
+use crate::columns;
+use crate::merging::TypeRows;
+use graph_model::{List, Mem, Name, Shared, TryClone};
 use std::alloc::Global;
 use std::marker::Model;
 
-/// Arcs by their source, with a column of values per key. The row of a node is the list of its arcs' targets.
-#[derive(Debug, Drop)]
+/// Arcs by their source, with a column of values per key. The row of a node is the list of its arcs' targets. A copy shares
+/// the columns.
+#[derive(Drop)]
 pub struct Csr {
-    offsets: Vec<u32>,
-    targets: Vec<u32>,
-    keys: List<Name>,
-    columns: Vec<List<i64>>,
+    columns: Shared<ArcColumns>,
 }
 
 impl Model for Csr {
     ghost use Rattle.csr_columns.specs.Rows.{ArcRows};
-    ghost use Rattle.csr_columns.specs.Offsets.{shown, AreRows};
 
     ghost Value = { ArcRows };
 
-    ghost view = { λ csr. shown csr.offsets.items csr.targets.items csr.keys csr.columns.items };
-
-    ghost invariant = { λ csr. AreRows csr.offsets.items csr.targets.items csr.keys csr.columns.items };
+    ghost view = { λ csr. csr.columns };
 }
 
 impl Csr {
+    // Arcs in columns, which are shared from now on.
+    fn sharing(alloc: Global, columns: ArcColumns) -> Result<Csr, Mem>
+        ensures { IfOk result (λ csr. csr ≡ columns) }
+    {
+        Ok(Csr {
+            columns: Shared::new(alloc, columns)?,
+        })
+    }
+
     /// The rows of arcs in ascending order of source and target, with a column of values per key. A value stands at
     /// the place of its arc. The columns are moved in, and stand in the order given.
     ///
@@ -53,18 +57,7 @@ impl Csr {
         requires distinct { AreDistinct (map (λ prop. prop.0) props) }
         ensures { IfOk result (λ csr. csr ≡ arc_rows_of nodes ends.now props) }
     {
-        if ends.len() > u32::MAX as usize {
-            return Err(Mem);
-        }
-        let offsets = counting::row_offsets(alloc, nodes, ends)?;
-        let targets = counting::targets(alloc, ends)?;
-        let (keys, columns) = columns::apart(alloc, props)?;
-        Ok(Csr {
-            offsets,
-            targets,
-            keys,
-            columns,
-        })
+        Csr::sharing(alloc, ArcColumns::build(alloc, nodes, ends, props)?)
     }
 
     /// The rows of arcs that stand in any order, with no columns. Each row keeps the order in which its arcs stand.
@@ -75,22 +68,10 @@ impl Csr {
         requires { All (LiesBelow nodes) ends.now }
         ensures { IfOk result (λ csr. csr ≡ arc_rows_of nodes ends.now []) }
     {
-        if ends.len() > u32::MAX as usize {
-            return Err(Mem);
-        }
-        let (offsets, targets) = counting::group_by_source(alloc, nodes, ends)?;
-        Ok(Csr {
-            offsets,
-            targets,
-            keys: List::new(alloc),
-            columns: Vec::new(alloc),
-        })
+        Csr::sharing(alloc, ArcColumns::by_source(alloc, nodes, ends)?)
     }
 
     /// The rows of kept nodes, merged from rows of several types, with their weights under a key where there is one.
-    ///
-    /// # Errors
-    /// `Mem` where there is no memory, and where there are more than 67,108,864 arcs.
     pub(crate) fn merged(
         alloc: Global,
         nodes: u32,
@@ -106,15 +87,8 @@ impl Csr {
         ensures rows { IfOk result (λ csr. csr ≡ merged_rows (option_copied key.entry) (map (merged_row nodes places.now types.now) kept.now)) }
         ensures few { IfOk result (λ csr. arcs_in_rows csr ≤ most_arcs) }
     {
-        let rows = merging::merge(alloc, nodes, types, places, kept, key.is_some())?;
-        let keys = columns::keys_under(alloc, key)?;
-        let columns = columns::values_under(alloc, key, rows.weights)?;
-        Ok(Csr {
-            offsets: rows.offsets,
-            targets: rows.targets,
-            keys,
-            columns,
-        })
+        let columns = ArcColumns::merged(alloc, nodes, types, places, kept, key)?;
+        Csr::sharing(alloc, columns)
     }
 
     /// The number of nodes. The targets of all arcs lie below it.
@@ -123,7 +97,7 @@ impl Csr {
         ensures nodes { result ≡ length self.now.rows }
         ensures below { HasTargetsBelow self.now.rows }
     {
-        (self.offsets.len() - 1) as u32
+        self.columns.get().node_count()
     }
 
     /// The number of arcs.
@@ -131,7 +105,7 @@ impl Csr {
     pub fn arc_count(&self) -> u32
         ensures { result ≡ sum_by length self.now.rows }
     {
-        self.targets.len() as u32
+        self.columns.get().arc_count()
     }
 
     /// The targets of the arcs from `v`, in order.
@@ -141,7 +115,7 @@ impl Csr {
         ensures row { result.now ≡ row_at self.now.rows v }
         ensures below { All (λ target. target < length self.now.rows) result.now }
     {
-        columns::cut(&self.offsets, &self.targets, v)
+        self.columns.get().row(v)
     }
 
     /// The keys, in the order in which `build` was given them.
@@ -150,7 +124,7 @@ impl Csr {
         ensures keys { result.now ≡ map (λ column. column.0) self.now.columns }
         ensures distinct { AreDistinct result.now }
     {
-        self.keys.as_slice()
+        self.columns.get().keys()
     }
 
     /// Whether each row ascends.
@@ -158,12 +132,7 @@ impl Csr {
         ensures ascend { result ≡ true → HasAscendingRows self.now.rows }
         ensures below { HasTargetsBelow self.now.rows }
     {
-        for v in 0..self.node_count() {
-            if !columns::is_ascending(self.row(v)) {
-                return false;
-            }
-        }
-        true
+        self.columns.get().has_ascending_rows()
     }
 
     /// Whether there is a column under a key.
@@ -178,7 +147,7 @@ impl Csr {
         ensures place { MatchOption result (under key.now self.now.columns ≡ None) (λ place. (place < length self.now.columns) × (under key.now self.now.columns ≡ Some (column_at self.now.columns place))) }
         ensures beside { IfSome result (λ place. IsBeside self.now.rows (column_at self.now.columns place)) }
     {
-        columns::place_of(self.keys.as_slice(), key)
+        self.columns.get().place_of(key)
     }
 
     /// The values of the arcs from `v` under the key at a place, in order.
@@ -189,7 +158,7 @@ impl Csr {
         ensures values { result.now ≡ row_at (column_at self.now.columns place) v }
         ensures beside { length result.now ≡ length (row_at self.now.rows v) }
     {
-        columns::cut(&self.offsets, self.columns[place].as_slice(), v)
+        self.columns.get().values(place, v)
     }
 
     /// The values of the arcs from `v` under a key, in order, `None` where there is no such key.
@@ -208,16 +177,15 @@ impl Csr {
     pub fn reverse(&self, alloc: Global) -> Result<Csr, Mem>
         ensures { IfOk result (λ csr. csr ≡ turned_rows self.now) }
     {
-        let Turning {
-            offsets,
-            places,
-            sources,
-        } = turning::turn(alloc, &self.offsets, &self.targets)?;
+        let columns = self.columns.get().reverse(alloc)?;
+        Csr::sharing(alloc, columns)
+    }
+}
+
+impl TryClone for Csr {
+    fn try_clone(&self) -> Result<Csr, Mem> {
         Ok(Csr {
-            offsets,
-            targets: columns::pick(alloc, &sources, &places)?,
-            keys: self.keys.try_clone()?,
-            columns: columns::pick_each(alloc, &self.columns, &places)?,
+            columns: self.columns.try_clone()?,
         })
     }
 }

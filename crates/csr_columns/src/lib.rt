@@ -7,6 +7,7 @@
 #![tactic(auto)]
 
 mod adding;
+mod arc_columns;
 mod choosing;
 mod columns;
 mod counting;

@@ -2,7 +2,7 @@ use Rattle.std.proofs.Common.{length, ap, subst, arith}
 use Rattle.csr_columns.specs.Rows.{ArcRows, HasTargetsBelow}
 use Rattle.csr_columns.proofs.OffsetRows.{length-cut_rows}
 use Rattle.csr_columns.proofs.Shown.{targets_below}
-use Rattle.csr_columns.proofs.csr.Csr.node_count.Goals as goal
+use Rattle.csr_columns.proofs.arc_columns.ArcColumns.node_count.Goals as goal
 
 pub returns-clause-nodes : goal.returns-clause-nodes
 returns-clause-nodes c =

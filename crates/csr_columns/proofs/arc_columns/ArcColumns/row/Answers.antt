@@ -2,7 +2,7 @@ use Rattle.std.proofs.Common.{◌≡◌, ℕ, ◌+◌, ◌<◌, List, length, sy
 use Rattle.csr_columns.specs.Rows.{ArcRows, row_at}
 use Rattle.csr_columns.specs.Offsets.{cut_rows}
 use Rattle.csr_columns.proofs.OffsetRows.{offsets_of_row, row_at-cut_rows, All-cut_row, length-cut_rows}
-use Rattle.csr_columns.proofs.csr.Csr.row.Goals as goal
+use Rattle.csr_columns.proofs.arc_columns.ArcColumns.row.Goals as goal
 
 pub cut-requires-clause-below : goal.cut-requires-clause-below
 cut-requires-clause-below c =

@@ -2,7 +2,7 @@ use Rattle.std.proofs.Common.{◌≡◌, length, subst, arith}
 use Rattle.std.specs.List.{sum_by}
 use Rattle.csr_columns.specs.Rows.{ArcRows}
 use Rattle.csr_columns.proofs.Shown.{sum-rows-shown}
-use Rattle.csr_columns.proofs.csr.Csr.arc_count.Goals as goal
+use Rattle.csr_columns.proofs.arc_columns.ArcColumns.arc_count.Goals as goal
 
 pub returns : goal.returns
 returns c =

@@ -1,7 +1,7 @@
 use Rattle.std.proofs.Common.{◌≡◌, ℕ, ℤ, List, map, sym, subst, ◌∙◌}
 use Rattle.csr_columns.specs.Rows.{ArcRows}
 use Rattle.csr_columns.proofs.Shown.{keys-shown}
-use Rattle.csr_columns.proofs.csr.Csr.keys.Goals as goal
+use Rattle.csr_columns.proofs.arc_columns.ArcColumns.keys.Goals as goal
 
 pub returns-clause-keys : goal.returns-clause-keys
 returns-clause-keys c =

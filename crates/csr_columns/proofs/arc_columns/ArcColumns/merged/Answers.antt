@@ -7,7 +7,7 @@ use Rattle.csr_columns.specs.Rows.{ArcRows}
 use Rattle.csr_columns.specs.Merging.{HoldsRows, merged_row}
 use Rattle.csr_columns.specs.Parts.{arcs_in_rows}
 use Rattle.csr_columns.proofs.MergedRows.{AreRows-held, few-held, merged-below, shown-held}
-use Rattle.csr_columns.proofs.csr.Csr.merged.Goals as goal
+use Rattle.csr_columns.proofs.arc_columns.ArcColumns.merged.Goals as goal
 
 copied-some : {T : Type 0} (o : Option (Bor T)) → is_some o ≡ is_some (option_copied o)
 copied-some None = refl

@@ -1,7 +1,7 @@
 use Rattle.std.proofs.Common.{◌≡◌, ℤ, List, [], length, refl, arith}
 use Rattle.std.proofs.lemmas.List.Elements.{All-nil}
 use Rattle.csr_columns.proofs.OffsetRows.{AreRows-grouped, ArcRows-agree, cut_rows-grouped}
-use Rattle.csr_columns.proofs.csr.Csr.by_source.Goals as goal
+use Rattle.csr_columns.proofs.arc_columns.ArcColumns.by_source.Goals as goal
 
 pub invariant_of-result : goal.invariant_of-result
 invariant_of-result c =

@@ -2,7 +2,7 @@ use Rattle.std.proofs.Common.{◌≡◌, ◌<◌, Some, None, MatchOption, IfSom
 use Rattle.graph_model.specs.Projection.{under}
 use Rattle.csr_columns.specs.Rows.{ArcRows, IsBeside, column_at}
 use Rattle.csr_columns.proofs.Shown.{place-shown, beside-found}
-use Rattle.csr_columns.proofs.csr.Csr.place_of.Goals as goal
+use Rattle.csr_columns.proofs.arc_columns.ArcColumns.place_of.Goals as goal
 
 pub returns-clause-place : goal.returns-clause-place
 returns-clause-place c =

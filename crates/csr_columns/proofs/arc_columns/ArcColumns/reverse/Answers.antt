@@ -1,7 +1,7 @@
 use Rattle.std.proofs.Common.{ap, ◌∙◌, arith}
 use Rattle.csr_columns.specs.Rows.{turned_rows}
 use Rattle.csr_columns.proofs.TurnedRows.{places_below, AreRows-turned, shown-turned}
-use Rattle.csr_columns.proofs.csr.Csr.reverse.Goals as goal
+use Rattle.csr_columns.proofs.arc_columns.ArcColumns.reverse.Goals as goal
 
 pub pick-requires : goal.pick-requires
 pick-requires c =

@@ -3,7 +3,7 @@ use Rattle.csr_columns.specs.Rows.{ArcRows, row_at, column_at}
 use Rattle.csr_columns.specs.Offsets.{cut_row}
 use Rattle.csr_columns.proofs.OffsetRows.{offsets_of_row, row_at-cut_rows}
 use Rattle.csr_columns.proofs.Shown.{length-columns-shown, length-cut_row, values-shown}
-use Rattle.csr_columns.proofs.csr.Csr.values.Goals as goal
+use Rattle.csr_columns.proofs.arc_columns.ArcColumns.values.Goals as goal
 
 pub index-requires : goal.index-requires
 index-requires c =

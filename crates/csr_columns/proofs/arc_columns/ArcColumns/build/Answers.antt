@@ -3,7 +3,7 @@ use Rattle.std.proofs.lemmas.List.{length-map}
 use Rattle.std.proofs.lemmas.List.Elements.{All-map}
 use Rattle.csr_columns.proofs.Ascending.{GroupsArcs-ascending, columns-ascending}
 use Rattle.csr_columns.proofs.OffsetRows.{AreRows-grouped, ArcRows-agree, cut_rows-grouped}
-use Rattle.csr_columns.proofs.csr.Csr.build.Goals as goal
+use Rattle.csr_columns.proofs.arc_columns.ArcColumns.build.Goals as goal
 
 pub invariant_of-result : goal.invariant_of-result
 invariant_of-result c =
