@@ -23,3 +23,4 @@ pub mod GrownRows
 pub mod MergedArcs
 pub mod Numbering
 pub mod MergedRows
+pub mod Mirrored

@@ -31,7 +31,7 @@ length-filter_map {X} {Y} f (x ∷ xs) = one (f x) (filter_map f xs) (length-fil
     one (Some y) ys h = omega arith
 
 -- pieces of the same lengths
-length-flat_maps : {X Y : Type 0} (f : ℕ → List X) (g : ℕ → List Y) (a n : ℕ) → ((v : ℕ) → a ≤ v → v < a + n → length (g v) ≡ length (f v)) → length (flat_map g (range_with_len a n)) ≡ length (flat_map f (range_with_len a n))
+pub length-flat_maps : {X Y : Type 0} (f : ℕ → List X) (g : ℕ → List Y) (a n : ℕ) → ((v : ℕ) → a ≤ v → v < a + n → length (g v) ≡ length (f v)) → length (flat_map g (range_with_len a n)) ≡ length (flat_map f (range_with_len a n))
 length-flat_maps f g a zero long = refl
 length-flat_maps f g a (suc n) long =
     let here = long a (omega arith) (omega arith) in

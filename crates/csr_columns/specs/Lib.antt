@@ -9,3 +9,4 @@ pub mod ViewParts
 pub mod Keeping
 pub mod Choosing
 pub mod Merging
+pub mod Mirror

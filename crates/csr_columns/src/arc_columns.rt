@@ -10,7 +10,7 @@ ghost use Rattle.graph_model.specs.Projection.{most_arcs, under};
 
 use crate::merging::{self, TypeRows};
 use crate::turning::{self, Turning};
-use crate::{columns, counting};
+use crate::{columns, counting, mirroring};
 use graph_model::{List, Mem, Name, TryClone};
 use std::alloc::Global;
 use std::marker::Model;
@@ -187,6 +187,14 @@ impl ArcColumns {
         ensures beside { length result.now ≡ length (row_at self.now.rows v) }
     {
         columns::cut(&self.offsets, self.columns[place].as_slice(), v)
+    }
+
+    /// Whether these rows are their own reverse, with the same values.
+    pub(crate) fn is_mirrored(&self, alloc: Global) -> Result<bool, Mem>
+        ensures { IfOk result (λ same. same ≡ true → turned_rows self.now ≡ self.now) }
+    {
+        let same = mirroring::mirrors(alloc, &self.offsets, &self.targets, &self.columns)?;
+        Ok(same)
     }
 
     /// Every arc turned, in ascending order of the new source and the new target. Equal arcs keep their order.

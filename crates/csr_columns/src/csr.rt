@@ -170,15 +170,20 @@ impl Csr {
         Some(self.values(place, v))
     }
 
-    /// Every arc turned, in ascending order of the new source and the new target. Equal arcs keep their order.
+    /// Every arc turned, in ascending order of the new source and the new target. Equal arcs keep their order. Rows that
+    /// are their own reverse, as those of undirected relationships mostly are, are shared; whether they are costs a number a
+    /// node, and ends at the first difference.
     ///
     /// # Errors
     /// `Mem` where there is no memory.
     pub fn reverse(&self, alloc: Global) -> Result<Csr, Mem>
         ensures { IfOk result (λ csr. csr ≡ turned_rows self.now) }
     {
-        let columns = self.columns.get().reverse(alloc)?;
-        Csr::sharing(alloc, columns)
+        let columns = self.columns.get();
+        if columns.is_mirrored(alloc)? {
+            return self.try_clone();
+        }
+        Csr::sharing(alloc, columns.reverse(alloc)?)
     }
 }
 

@@ -15,6 +15,7 @@ mod csr;
 mod keeping;
 pub mod laws;
 mod merging;
+mod mirroring;
 mod parts;
 mod projection;
 mod taking;
