@@ -1,7 +1,7 @@
 // Arcs by source: where each row begins, and the targets and the values row after row.
 ghost use Rattle.std.specs.Prelude.{◌≡◌, ◌<◌, ◌≤◌, true, [], length, map, sum_by, All, MatchOption, IfOk, IfSome, None, Some, option_copied};
 ghost use Rattle.std.specs.List.Sorted.{IsSorted};
-ghost use Rattle.csr_columns.specs.Rows.{HasTargetsBelow, IsBeside, LiesBelow, AreDistinct, arc_cmp, arc_rows_of, row_at, column_at, turned_rows};
+ghost use Rattle.csr_columns.specs.Rows.{HasTargetsBelow, IsBeside, LiesBelow, AreDistinct, arc_cmp, arc_rows_of, listed, row_at, column_at, turned_rows};
 ghost use Rattle.csr_columns.specs.Order.{HasAscendingRows};
 ghost use Rattle.csr_columns.specs.Parts.{arcs_in_rows};
 ghost use Rattle.csr_columns.specs.Keeping.{HasPlacesBelow};
@@ -94,7 +94,7 @@ impl ArcColumns {
     /// The rows of kept nodes, merged from rows of several types, with their weights under a key where there is one.
     ///
     /// # Errors
-    /// `Mem` where there is no memory, and where there are more than 67,108,864 arcs.
+    /// `Mem` where there is no memory.
     pub(crate) fn merged(
         alloc: Global,
         nodes: u32,
@@ -107,6 +107,7 @@ impl ArcColumns {
         requires places { HasPlacesBelow nodes places.now }
         requires kept { IsNumbering places.now kept.now }
         requires many { length kept.now ≡ nodes }
+        requires few { length (listed (map (merged_row nodes places.now types.now) kept.now)) ≤ most_arcs }
         ensures rows { IfOk result (λ csr. csr ≡ merged_rows (option_copied key.entry) (map (merged_row nodes places.now types.now) kept.now)) }
         ensures few { IfOk result (λ csr. arcs_in_rows csr ≤ most_arcs) }
     {

@@ -1,7 +1,7 @@
 // Arcs by source, in columns that copies share.
 ghost use Rattle.std.specs.Prelude.{◌≡◌, ◌<◌, ◌≤◌, true, [], length, map, sum_by, All, MatchOption, IfOk, IfSome, None, Some, option_copied};
 ghost use Rattle.std.specs.List.Sorted.{IsSorted};
-ghost use Rattle.csr_columns.specs.Rows.{HasTargetsBelow, IsBeside, names_of, LiesBelow, AreDistinct, arc_cmp, arc_rows_of, row_at, column_at, row_in, turned_rows};
+ghost use Rattle.csr_columns.specs.Rows.{HasTargetsBelow, IsBeside, names_of, LiesBelow, AreDistinct, arc_cmp, arc_rows_of, listed, row_at, column_at, row_in, turned_rows};
 ghost use Rattle.csr_columns.specs.Order.{HasAscendingRows};
 ghost use Rattle.csr_columns.specs.Parts.{arcs_in_rows};
 ghost use Rattle.csr_columns.specs.Keeping.{HasPlacesBelow};
@@ -84,6 +84,7 @@ impl Csr {
         requires places { HasPlacesBelow nodes places.now }
         requires kept { IsNumbering places.now kept.now }
         requires many { length kept.now ≡ nodes }
+        requires few { length (listed (map (merged_row nodes places.now types.now) kept.now)) ≤ most_arcs }
         ensures rows { IfOk result (λ csr. csr ≡ merged_rows (option_copied key.entry) (map (merged_row nodes places.now types.now) kept.now)) }
         ensures few { IfOk result (λ csr. arcs_in_rows csr ≤ most_arcs) }
     {

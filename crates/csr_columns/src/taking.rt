@@ -4,7 +4,7 @@ ghost use Rattle.std.specs.List.{flat_map, list_all};
 ghost use Rattle.graph_model.specs.Projection.{most_arcs};
 ghost use Rattle.csr_columns.specs.Rows.{arcs_of, column_at};
 ghost use Rattle.csr_columns.specs.Order.{ordered, itself, arc_beside};
-ghost use Rattle.csr_columns.specs.Parts.{HasNodes, arcs_in_rows};
+ghost use Rattle.csr_columns.specs.Parts.{HasNodes, arcs_in, arcs_in_rows};
 ghost use Rattle.csr_columns.specs.Choosing.{chosen, has_column};
 ghost use Rattle.csr_columns.specs.Keeping.{HasArcsBelow, HasPlacesBelow, HasValuesBeside, arcs_beside, taken_arcs, taken_of};
 ghost use Rattle.csr_columns.specs.Merging.{IsNumbering};
@@ -25,6 +25,7 @@ pub(crate) fn bare_rows(
     kept: &[u32],
 ) -> Result<Csr, Mem>
     requires rows { All (HasNodes (length places.now)) types.now }
+    requires few { arcs_in types.now ≤ most_arcs }
     requires places { HasPlacesBelow nodes places.now }
     requires kept { IsNumbering places.now kept.now }
     requires many { length kept.now ≡ nodes }
@@ -49,6 +50,7 @@ pub(crate) fn heavy_rows(
     key: &Name,
 ) -> Result<Csr, Mem>
     requires rows { All (HasNodes (length places.now)) types.now }
+    requires few { arcs_in types.now ≤ most_arcs }
     requires places { HasPlacesBelow nodes places.now }
     requires kept { IsNumbering places.now kept.now }
     requires many { length kept.now ≡ nodes }

@@ -1,14 +1,19 @@
-use Rattle.std.proofs.Common.{length, None}
+use Rattle.std.proofs.Common.{arith, length, None}
 use Rattle.std.proofs.lemmas.List.Elements.{All-filter}
 use Rattle.csr_columns.specs.Parts.{HasNodes}
 use Rattle.csr_columns.specs.Choosing.{chosen, chooses_kind}
-use Rattle.csr_columns.proofs.MergedRows.{chosen-rows, merged-bare}
+use Rattle.csr_columns.proofs.MergedRows.{chosen-rows, merged-few, merged-bare}
 use Rattle.csr_columns.proofs.taking.bare_rows.Goals as goal
 
 pub merged-requires-clause-rows : goal.merged-requires-clause-rows
 merged-requires-clause-rows c =
     rw (c.deref.ensures.value, c.in_ok-rows.ensures.rows)
     (chosen-rows (length c.args.places.now) None c.args.choice.now c.args.types.now c.requires.rows)
+
+pub merged-requires-clause-few : goal.merged-requires-clause-few
+merged-requires-clause-few c =
+    rw (c.deref.ensures.value, c.in_ok-rows.ensures.rows)
+    (omega (arith, c.requires.few, merged-few c.args.nodes c.args.places.now c.args.kept.now None c.args.choice.now c.args.types.now c.requires.kept c.requires.many c.requires.rows c.in_ok-rows.ensures.beside))
 
 pub returns-clause-arcs : goal.returns-clause-arcs
 returns-clause-arcs c =
