@@ -1,5 +1,6 @@
 #!/usr/bin/env python3
-"""Times rows of arcs, built, reversed, viewed and merged by `gds_bench rows`, beside the same work in plain Rust.
+"""Times rows of arcs, built, reversed, viewed and merged by `gds_bench rows`, beside the same work in plain Rust. `mirror` is
+the reverse of rows that are their own: shared by `gds_bench`, computed by the plain Rust.
 
 usage: rows.py [--nodes N] [--arcs M] [--runs K]
 

@@ -18,3 +18,9 @@ pub mod Viewed
 pub mod Renumbering
 pub mod Unmoved
 pub mod Sharing
+pub mod TargetOrder
+pub mod GrownRows
+pub mod MergedArcs
+pub mod Numbering
+pub mod MergedRows
+pub mod Mirrored

@@ -1,5 +1,5 @@
 -- Arcs that are taken over: how many they are, where their ends lie, and the values beside them.
-use Rattle.std.proofs.Common.{◌≡◌, ⊎_elim, ℕ, ℤ, ◌+◌, ◌<◌, ◌≤◌, Bool, true, false, ◌&&◌, ◌||◌, List, [], ◌∷◌, ◌++◌, length, map, get_or, Option, Some, None, IfSome, refl, sym, ap, ◌∙◌, zero, suc, arith}
+use Rattle.std.proofs.Common.{◌≡◌, ⊎_elim, ℕ, ℤ, ◌+◌, ◌<◌, ◌≤◌, Bool, true, false, ◌&&◌, ◌||◌, List, [], ◌∷◌, ◌++◌, length, map, Option, Some, None, IfSome, refl, sym, ap, ◌∙◌, zero, suc, arith}
 use Rattle.std.specs.Option.{is_some}
 use Rattle.std.specs.List.{All, filter_map, cons_option, flat_map, range_with_len, sum_by, list_all, zip}
 use Rattle.std.specs.Str.{bytes_eq}
@@ -12,11 +12,11 @@ use Rattle.std.proofs.lemmas.List.Elements.{All-head, All-tail, All-nil, All-con
 use Rattle.std.proofs.lemmas.List.FromFn.{fill_by_all}
 use Rattle.graph_model.specs.Projection.{is_among, under}
 use Rattle.graph_model.specs.declared.graph.Choice.{Choice}
-use Rattle.csr_columns.specs.Rows.{IsBeside, LiesBelow, arc_from, arcs_at, arcs_of, listed, listed_column, column_at, names_of, row_at}
-use Rattle.csr_columns.specs.Order.{grouped, source_by, target_by, ordered, itself, arc_beside, ordered_column}
+use Rattle.csr_columns.specs.Rows.{IsBeside, LiesBelow, arc_from, arcs_at, arcs_of, listed, names_of, row_at}
+use Rattle.csr_columns.specs.Order.{grouped, source_by, target_by, ordered, itself, arc_beside}
 use Rattle.csr_columns.specs.Parts.{arcs_in, arcs_in_type}
 use Rattle.csr_columns.specs.Choosing.{chosen, chooses_kind, has_column}
-use Rattle.csr_columns.specs.Keeping.{HasPlacesBelow, HasValuesBeside, new_place, both_ends, moved, moved_with, beside_arc, arcs_beside, rows_under, taken_arcs, taken_of, values_beside}
+use Rattle.csr_columns.specs.Keeping.{HasPlacesBelow, HasValuesBeside, new_place, both_ends, moved, moved_with, beside_arc, rows_under, taken_arcs, taken_of}
 use Rattle.csr_columns.specs.declared.parts.TypeColumns.{TypeColumns}
 use Rattle.csr_columns.proofs.Grouping.{grouped-map}
 use Rattle.csr_columns.proofs.ViewArcs.{flat_map-map}
@@ -31,7 +31,7 @@ length-filter_map {X} {Y} f (x ∷ xs) = one (f x) (filter_map f xs) (length-fil
     one (Some y) ys h = omega arith
 
 -- pieces of the same lengths
-length-flat_maps : {X Y : Type 0} (f : ℕ → List X) (g : ℕ → List Y) (a n : ℕ) → ((v : ℕ) → a ≤ v → v < a + n → length (g v) ≡ length (f v)) → length (flat_map g (range_with_len a n)) ≡ length (flat_map f (range_with_len a n))
+pub length-flat_maps : {X Y : Type 0} (f : ℕ → List X) (g : ℕ → List Y) (a n : ℕ) → ((v : ℕ) → a ≤ v → v < a + n → length (g v) ≡ length (f v)) → length (flat_map g (range_with_len a n)) ≡ length (flat_map f (range_with_len a n))
 length-flat_maps f g a zero long = refl
 length-flat_maps f g a (suc n) long =
     let here = long a (omega arith) (omega arith) in
@@ -39,7 +39,7 @@ length-flat_maps f g a (suc n) long =
     omega (arith, here, later, length-append (f a) (flat_map f (range_with_len (a + 1) n)), length-append (g a) (flat_map g (range_with_len (a + 1) n)))
 
 -- rows, by their places
-listed-rows : {X : Type 0} (rows : List (List X)) → listed rows ≡ flat_map (row_at rows) (range_with_len 0 (length rows))
+pub listed-rows : {X : Type 0} (rows : List (List X)) → listed rows ≡ flat_map (row_at rows) (range_with_len 0 (length rows))
 listed-rows {X} rows =
     ap listed (fill_by_all (row_at rows) rows (length rows) [] refl (λ k h. refl))
     ∙ flat_map-map (λ (row : List X). row) (row_at rows) (range_with_len 0 (length rows))
@@ -93,7 +93,7 @@ module _ (places : List (Option ℕ)) where
   first-moved value None entries = refl
   first-moved value (Some arc) entries = refl
 
-  arcs-moved : (arcs : List (ℕ × ℕ)) (values : List ℤ) → length values ≡ length arcs → map arc_beside (filter_map (moved_with places) (zip arcs values)) ≡ filter_map (moved places) arcs
+  pub arcs-moved : (arcs : List (ℕ × ℕ)) (values : List ℤ) → length values ≡ length arcs → map arc_beside (filter_map (moved_with places) (zip arcs values)) ≡ filter_map (moved places) arcs
   arcs-moved [] values long = refl
   arcs-moved (arc ∷ arcs) [] long = absurd (omega arith)
   arcs-moved (arc ∷ arcs) (value ∷ values) long =
@@ -147,36 +147,12 @@ arcs-taken places key (type ∷ types) has beside =
     ∙ ap (λ (xs : List (ℕ × ℕ)). taken_arcs places type ++ xs) (arcs-taken places key types (both-second (has_column key type) (list_all (has_column key) types) has) (All-tail (HasValuesBeside key) type types beside))
 
 -- pairs, taken apart and put side by side
-zip-pairs : {X Y : Type 0} (entries : List (X × Y)) → zip (map (λ (e : X × Y). e.0) entries) (map (λ (e : X × Y). e.1) entries) ≡ entries
+pub zip-pairs : {X Y : Type 0} (entries : List (X × Y)) → zip (map (λ (e : X × Y). e.0) entries) (map (λ (e : X × Y). e.1) entries) ≡ entries
 zip-pairs [] = refl
 zip-pairs {X} {Y} (entry ∷ entries) = ap (λ (es : List (X × Y)). entry ∷ es) (zip-pairs entries)
 
 -- the arcs of ordered entries are the ordered arcs
-ordered-arcs : (nodes : ℕ) (entries : List ((ℕ × ℕ) × ℤ)) → ordered itself nodes (map arc_beside entries) ≡ map arc_beside (ordered arc_beside nodes entries)
+pub ordered-arcs : (nodes : ℕ) (entries : List ((ℕ × ℕ) × ℤ)) → ordered itself nodes (map arc_beside entries) ≡ map arc_beside (ordered arc_beside nodes entries)
 ordered-arcs nodes entries =
     ap (grouped (source_by itself) nodes) (grouped-map (target_by itself) (target_by arc_beside) arc_beside nodes entries (λ x. refl))
     ∙ grouped-map (source_by itself) (source_by arc_beside) arc_beside nodes (grouped (target_by arc_beside) nodes entries) (λ x. refl)
-
--- the only column
-single : (columns : List (List ℕ × List (List ℤ))) (key : List ℕ) (values : List ℤ) → map listed_column columns ≡ (key, values) ∷ [] → (0 < length columns) × (listed (column_at columns 0) ≡ values)
-single [] key values is = absurd cc
-single (column ∷ columns) key values is = (omega arith, ap (λ (cs : List (List ℕ × List ℤ)). (get_or cs 0 ([], [])).1) is)
-
--- as many values as arcs
-pub length-weights : (entries : List ((ℕ × ℕ) × ℤ)) (ends : List (ℕ × ℕ)) (weights : List ℤ) → ends ≡ map arc_beside entries → weights ≡ values_beside entries → length weights ≡ length ends
-length-weights entries ends weights ends_are weights_are =
-    ap (λ (xs : List ℤ). length xs) weights_are ∙ length-map entries (λ (e : (ℕ × ℕ) × ℤ). e.1) ∙ sym (length-map entries arc_beside)
-    ∙ ap (λ (xs : List (ℕ × ℕ)). length xs) (sym ends_are)
-
--- ordered arcs and their ordered values, side by side
-pub entries-ordered : (nodes : ℕ) (key : List ℕ) (entries : List ((ℕ × ℕ) × ℤ)) (ends : List (ℕ × ℕ)) (weights : List ℤ) (rows : List (List ℕ)) (columns : List (List ℕ × List (List ℤ))) → ends ≡ map arc_beside entries → weights ≡ values_beside entries → arcs_of rows ≡ ordered itself nodes ends → map listed_column columns ≡ map (ordered_column nodes ends) (zip (key ∷ []) (weights ∷ [])) → (0 < length columns) × (arcs_beside rows (column_at columns 0) ≡ ordered arc_beside nodes entries)
-entries-ordered nodes key entries ends weights rows columns ends_are weights_are arcs_are columns_are =
-    let value : (ℕ × ℕ) × ℤ → ℤ = λ entry. entry.1 in
-    let column = single columns key (map value (ordered arc_beside nodes (zip ends weights))) columns_are in
-    let pairs : zip ends weights ≡ entries = ap (λ (xs : List (ℕ × ℕ)). zip xs weights) ends_are ∙ ap (λ (xs : List ℤ). zip (map arc_beside entries) xs) weights_are ∙ zip-pairs entries in
-    let put : List ((ℕ × ℕ) × ℤ) = ordered arc_beside nodes entries in (
-      column.0,
-      ap (λ (xs : List (ℕ × ℕ)). zip xs (listed (column_at columns 0))) (arcs_are ∙ ap (ordered itself nodes) ends_are ∙ ordered-arcs nodes entries)
-          ∙ ap (λ (xs : List ℤ). zip (map arc_beside put) xs) (column.1 ∙ ap (λ (es : List ((ℕ × ℕ) × ℤ)). map value (ordered arc_beside nodes es)) pairs)
-          ∙ zip-pairs put,
-    )

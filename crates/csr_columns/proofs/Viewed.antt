@@ -67,7 +67,7 @@ All-zip {X} {Y} P [] ys all = All-nil (λ (e : X × Y). P e.0)
 All-zip {X} {Y} P (x ∷ xs) [] all = All-nil (λ (e : X × Y). P e.0)
 All-zip {X} {Y} P (x ∷ xs) (y ∷ ys) all = All-cons (λ (e : X × Y). P e.0) (x, y) (zip xs ys) (All-head P x xs all) (All-zip P xs ys (All-tail P x xs all))
 
-All-pieces : {X Y : Type 0} (P : Y → Type 0) (Q : X → Type 0) (f : X → List Y) (xs : List X) → ((x : X) → Q x → All P (f x)) → All Q xs → All P (flat_map f xs)
+pub All-pieces : {X Y : Type 0} (P : Y → Type 0) (Q : X → Type 0) (f : X → List Y) (xs : List X) → ((x : X) → Q x → All P (f x)) → All Q xs → All P (flat_map f xs)
 All-pieces P Q f [] each all = All-nil P
 All-pieces P Q f (x ∷ xs) each all = All-append P (f x) (flat_map f xs) (each x (All-head Q x xs all)) (All-pieces P Q f xs each (All-tail Q x xs all))
 
@@ -75,11 +75,11 @@ pub All-agree : {X : Type 0} (P Q : X → Type 0) (xs : List X) → ((x : X) →
 All-agree P Q [] f all = All-nil Q
 All-agree P Q (x ∷ xs) f all = All-cons Q x xs (f x (All-head P x xs all)) (All-agree P Q xs f (All-tail P x xs all))
 
-All-two : {X : Type 0} (P Q : X → Type 0) (xs : List X) → All P xs → All Q xs → All (λ x. P x × Q x) xs
+pub All-two : {X : Type 0} (P Q : X → Type 0) (xs : List X) → All P xs → All Q xs → All (λ x. P x × Q x) xs
 All-two P Q [] p q = All-nil (λ x. P x × Q x)
 All-two P Q (x ∷ xs) p q = All-cons (λ y. P y × Q y) x xs (All-head P x xs p, All-head Q x xs q) (All-two P Q xs (All-tail P x xs p) (All-tail Q x xs q))
 
-filter_map-pieces : {X Y Z : Type 0} (g : Y → Option Z) (f : X → List Y) (xs : List X) → flat_map (λ x. filter_map g (f x)) xs ≡ filter_map g (flat_map f xs)
+pub filter_map-pieces : {X Y Z : Type 0} (g : Y → Option Z) (f : X → List Y) (xs : List X) → flat_map (λ x. filter_map g (f x)) xs ≡ filter_map g (flat_map f xs)
 filter_map-pieces g f [] = refl
 filter_map-pieces {X} {Y} {Z} g f (x ∷ xs) =
     ap (λ (zs : List Z). filter_map g (f x) ++ zs) (filter_map-pieces g f xs) ∙ sym (filter_map-append g (f x) (flat_map f xs))

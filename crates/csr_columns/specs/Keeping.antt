@@ -1,10 +1,11 @@
 -- Nodes that are kept, and the places that they get.
 --   kept_of kept items       the items whose flags are true
 --   renumbered n kept        for each flag its number among the true ones, from n on, where it is true
+--   kept_places n kept       the places of the true flags, where the first stands at n
 --   moved places arc         an arc between places as one between the places that its ends get, where both get one
 --   taken_arcs places type   the arcs of a type whose ends both get places
 --   taken_of places key type the same with their values under a key
-use Rattle.std.specs.Prelude.{◌≡◌, ℕ, ℤ, ◌+◌, ◌<◌, Bool, true, false, List, [], ◌∷◌, map, slice_index_or, Option, None, Some, IfSome}
+use Rattle.std.specs.Prelude.{◌≡◌, ℕ, ℤ, ◌+◌, ◌<◌, Bool, true, false, List, [], ◌∷◌, slice_index_or, Option, None, Some, IfSome}
 use Rattle.std.specs.List.{filter_map, zip}
 use Rattle.graph_model.specs.Projection.{under}
 use Rattle.csr_columns.specs.Rows.{HasTargetsBelow, IsBeside, arcs_of, listed}
@@ -22,6 +23,12 @@ abbrev pub renumbered : ℕ → List Bool → List (Option ℕ)
 renumbered n [] = []
 renumbered n (true ∷ flags) = Some n ∷ renumbered (n + 1) flags
 renumbered n (false ∷ flags) = None ∷ renumbered n flags
+
+-- the places of the true flags, where the first stands at n
+abbrev pub kept_places : ℕ → List Bool → List ℕ
+kept_places n [] = []
+kept_places n (true ∷ flags) = n ∷ kept_places (n + 1) flags
+kept_places n (false ∷ flags) = kept_places (n + 1) flags
 
 -- the place that a node gets
 abbrev pub new_place : List (Option ℕ) → ℕ → Option ℕ
@@ -45,18 +52,6 @@ beside_arc value (Some arc) = Some (arc, value)
 abbrev pub moved_with : {A : Type 0} → List (Option ℕ) → (ℕ × ℕ) × A → Option ((ℕ × ℕ) × A)
 moved_with places entry = beside_arc entry.1 (moved places entry.0)
 
--- an arc from a place to the place that its target gets
-abbrev pub moved_from : List (Option ℕ) → ℕ → ℕ → Option (ℕ × ℕ)
-moved_from places source target = both_ends (Some source) (new_place places target)
-
--- the value beside an arc whose target gets a place
-abbrev pub value_if : ℤ → Option ℕ → Option ℤ
-value_if value None = None
-value_if value (Some place) = Some value
-
-abbrev pub value_from : List (Option ℕ) → ℕ × ℤ → Option ℤ
-value_from places entry = value_if entry.1 (new_place places entry.0)
-
 -- the arcs of a type whose ends both get places
 abbrev pub taken_arcs : List (Option ℕ) → TypeColumns → List (ℕ × ℕ)
 taken_arcs places type = filter_map (moved places) (arcs_of type.arcs.rows)
@@ -77,10 +72,6 @@ rows_under (Some column) = column
 -- the arcs of a type whose ends both get places, with their values under a key
 abbrev pub taken_of : List (Option ℕ) → List ℕ → TypeColumns → List ((ℕ × ℕ) × ℤ)
 taken_of places key type = taken_entries places type.arcs.rows (rows_under (under key type.arcs.columns))
-
--- the values alone
-abbrev pub values_beside : {A : Type 0} → List (A × ℤ) → List ℤ
-values_beside entries = map (λ entry. entry.1) entries
 
 -- the targets of the arcs of a type lie below its number of nodes
 abbrev pub HasArcsBelow : TypeColumns → Type 0

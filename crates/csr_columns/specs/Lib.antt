@@ -8,3 +8,5 @@ pub mod Plain
 pub mod ViewParts
 pub mod Keeping
 pub mod Choosing
+pub mod Merging
+pub mod Mirror

@@ -3,9 +3,10 @@ ghost use Rattle.std.specs.Prelude.{◌≡◌, ◌+◌, ◌<◌, true, length, m
 ghost use Rattle.std.specs.List.{zip};
 ghost use Rattle.graph_model.specs.Projection.{is_among, under};
 ghost use Rattle.csr_columns.specs.Order.{IsAscending};
+ghost use Rattle.csr_columns.specs.Merging.{keys_under, values_under};
 ghost use Rattle.csr_columns.specs.Offsets.{CutsRows, IsFirstNamed, IsUnnamed, cut_row, item_at, picked_column};
 
-use graph_model::{List, Mem, Name, Shared};
+use graph_model::{List, Mem, Name, Shared, TryClone};
 use std::alloc::Global;
 
 /// The row of `v` in a list that offsets cut into rows.
@@ -136,4 +137,30 @@ pub(crate) fn pick_each(
         picked.push(List::from_vec(pick(alloc, column.as_slice(), places)?))?;
     }
     Ok(picked)
+}
+
+/// A key alone, where there is one.
+pub(crate) fn keys_under(alloc: Global, key: Option<&Name>) -> Result<List<Name>, Mem>
+    ensures { IfOk result (λ keys. keys ≡ keys_under (option_copied key.entry)) }
+{
+    let mut keys = List::new(alloc);
+    if let Some(key) = key {
+        keys.push(key.try_clone()?)?;
+    }
+    Ok(keys)
+}
+
+/// The one column under a key, where there is one.
+pub(crate) fn values_under(
+    alloc: Global,
+    key: Option<&Name>,
+    values: Vec<i64>,
+) -> Result<Vec<List<i64>>, Mem>
+    ensures { IfOk result (λ columns. columns.items ≡ values_under (option_copied key.entry) values.items) }
+{
+    let mut columns = Vec::new(alloc);
+    if key.is_some() {
+        columns.push(List::from_vec(values))?;
+    }
+    Ok(columns)
 }

@@ -1,39 +1,45 @@
-// Arcs by source, in columns.
-ghost use Rattle.std.specs.Prelude.{◌≡◌, ◌^◌, ◌<◌, true, [], length, map, sum_by, All, MatchOption, IfOk, IfSome, None, Some, option_copied};
-ghost use Rattle.std.specs.List.{zip};
+// Arcs by source, in columns that copies share.
+ghost use Rattle.std.specs.Prelude.{◌≡◌, ◌<◌, ◌≤◌, true, [], length, map, sum_by, All, MatchOption, IfOk, IfSome, None, Some, option_copied};
 ghost use Rattle.std.specs.List.Sorted.{IsSorted};
-ghost use Rattle.csr_columns.specs.Rows.{HasTargetsBelow, IsBeside, names_of, LiesBelow, AreDistinct, arc_cmp, arc_rows_of, row_at, column_at, row_in, arcs_of, listed_column, turned_rows};
-ghost use Rattle.csr_columns.specs.Order.{HasAscendingRows, ordered, ordered_column, itself};
-ghost use Rattle.graph_model.specs.Projection.{is_among, under};
+ghost use Rattle.csr_columns.specs.Rows.{HasTargetsBelow, IsBeside, names_of, LiesBelow, AreDistinct, arc_cmp, arc_rows_of, listed, row_at, column_at, row_in, turned_rows};
+ghost use Rattle.csr_columns.specs.Order.{HasAscendingRows};
+ghost use Rattle.csr_columns.specs.Parts.{arcs_in_rows};
+ghost use Rattle.csr_columns.specs.Keeping.{HasPlacesBelow};
+ghost use Rattle.csr_columns.specs.Merging.{HasRows, IsNumbering, merged_row, merged_rows};
+ghost use Rattle.graph_model.specs.Projection.{is_among, most_arcs, under};
 
-use crate::ordering::{self, Order};
-use crate::turning::{self, Turning};
-use crate::{columns, counting};
-use graph_model::{List, Mem, Name, TryClone};
+use crate::arc_columns::ArcColumns;
+use crate::columns;
+use crate::merging::TypeRows;
+use graph_model::{List, Mem, Name, Shared, TryClone};
 use std::alloc::Global;
 use std::marker::Model;
 
-/// Arcs by their source, with a column of values per key. The row of a node is the list of its arcs' targets.
-#[derive(Debug, Drop)]
+/// Arcs by their source, with a column of values per key. The row of a node is the list of its arcs' targets. A copy shares
+/// the columns.
+#[derive(Drop)]
 pub struct Csr {
-    offsets: Vec<u32>,
-    targets: Vec<u32>,
-    keys: List<Name>,
-    columns: Vec<List<i64>>,
+    columns: Shared<ArcColumns>,
 }
 
 impl Model for Csr {
     ghost use Rattle.csr_columns.specs.Rows.{ArcRows};
-    ghost use Rattle.csr_columns.specs.Offsets.{shown, AreRows};
 
     ghost Value = { ArcRows };
 
-    ghost view = { λ csr. shown csr.offsets.items csr.targets.items csr.keys csr.columns.items };
-
-    ghost invariant = { λ csr. AreRows csr.offsets.items csr.targets.items csr.keys csr.columns.items };
+    ghost view = { λ csr. csr.columns };
 }
 
 impl Csr {
+    // Arcs in columns, which are shared from now on.
+    fn sharing(alloc: Global, columns: ArcColumns) -> Result<Csr, Mem>
+        ensures { IfOk result (λ csr. csr ≡ columns) }
+    {
+        Ok(Csr {
+            columns: Shared::new(alloc, columns)?,
+        })
+    }
+
     /// The rows of arcs in ascending order of source and target, with a column of values per key. A value stands at
     /// the place of its arc. The columns are moved in, and stand in the order given.
     ///
@@ -51,18 +57,7 @@ impl Csr {
         requires distinct { AreDistinct (map (λ prop. prop.0) props) }
         ensures { IfOk result (λ csr. csr ≡ arc_rows_of nodes ends.now props) }
     {
-        if ends.len() > u32::MAX as usize {
-            return Err(Mem);
-        }
-        let offsets = counting::row_offsets(alloc, nodes, ends)?;
-        let targets = counting::targets(alloc, ends)?;
-        let (keys, columns) = columns::apart(alloc, props)?;
-        Ok(Csr {
-            offsets,
-            targets,
-            keys,
-            columns,
-        })
+        Csr::sharing(alloc, ArcColumns::build(alloc, nodes, ends, props)?)
     }
 
     /// The rows of arcs that stand in any order, with no columns. Each row keeps the order in which its arcs stand.
@@ -73,45 +68,28 @@ impl Csr {
         requires { All (LiesBelow nodes) ends.now }
         ensures { IfOk result (λ csr. csr ≡ arc_rows_of nodes ends.now []) }
     {
-        if ends.len() > u32::MAX as usize {
-            return Err(Mem);
-        }
-        let (offsets, targets) = counting::group_by_source(alloc, nodes, ends)?;
-        Ok(Csr {
-            offsets,
-            targets,
-            keys: List::new(alloc),
-            columns: Vec::new(alloc),
-        })
+        Csr::sharing(alloc, ArcColumns::by_source(alloc, nodes, ends)?)
     }
 
-    /// The rows of arcs that stand in any order, each in ascending order of target, with the columns in the arcs' order.
-    /// Equal arcs keep their order.
-    pub(crate) fn ordered(
+    /// The rows of kept nodes, merged from rows of several types, with their weights under a key where there is one.
+    pub(crate) fn merged(
         alloc: Global,
         nodes: u32,
-        ends: &[(u32, u32)],
-        keys: List<Name>,
-        columns: &[List<i64>],
+        types: &[TypeRows],
+        places: &[Option<u32>],
+        kept: &[u32],
+        key: Option<&Name>,
     ) -> Result<Csr, Mem>
-        requires few { length ends.now < 2 ^ 32 }
-        requires below { All (LiesBelow nodes) ends.now }
-        requires beside { All (λ column. length column ≡ length ends.now) columns.now }
-        requires named { length keys ≡ length columns.now }
-        requires distinct { AreDistinct keys }
-        ensures nodes { IfOk result (λ csr. length csr.rows ≡ nodes) }
-        ensures many { IfOk result (λ csr. sum_by length csr.rows ≡ length ends.now) }
-        ensures arcs { IfOk result (λ csr. arcs_of csr.rows ≡ ordered itself nodes ends.now) }
-        ensures columns { IfOk result (λ csr. map listed_column csr.columns ≡ map (ordered_column nodes ends.now) (zip keys columns.now)) }
+        requires rows { All (HasRows (length places.now)) types.now }
+        requires places { HasPlacesBelow nodes places.now }
+        requires kept { IsNumbering places.now kept.now }
+        requires many { length kept.now ≡ nodes }
+        requires few { length (listed (map (merged_row nodes places.now types.now) kept.now)) ≤ most_arcs }
+        ensures rows { IfOk result (λ csr. csr ≡ merged_rows (option_copied key.entry) (map (merged_row nodes places.now types.now) kept.now)) }
+        ensures few { IfOk result (λ csr. arcs_in_rows csr ≤ most_arcs) }
     {
-        let Order { offsets, places } = ordering::put_in_order(alloc, nodes, ends)?;
-        let targets = counting::targets(alloc, ends)?;
-        Ok(Csr {
-            offsets,
-            targets: columns::pick(alloc, &targets, &places)?,
-            keys,
-            columns: columns::pick_each(alloc, columns, &places)?,
-        })
+        let columns = ArcColumns::merged(alloc, nodes, types, places, kept, key)?;
+        Csr::sharing(alloc, columns)
     }
 
     /// The number of nodes. The targets of all arcs lie below it.
@@ -120,7 +98,7 @@ impl Csr {
         ensures nodes { result ≡ length self.now.rows }
         ensures below { HasTargetsBelow self.now.rows }
     {
-        (self.offsets.len() - 1) as u32
+        self.columns.get().node_count()
     }
 
     /// The number of arcs.
@@ -128,7 +106,7 @@ impl Csr {
     pub fn arc_count(&self) -> u32
         ensures { result ≡ sum_by length self.now.rows }
     {
-        self.targets.len() as u32
+        self.columns.get().arc_count()
     }
 
     /// The targets of the arcs from `v`, in order.
@@ -138,7 +116,7 @@ impl Csr {
         ensures row { result.now ≡ row_at self.now.rows v }
         ensures below { All (λ target. target < length self.now.rows) result.now }
     {
-        columns::cut(&self.offsets, &self.targets, v)
+        self.columns.get().row(v)
     }
 
     /// The keys, in the order in which `build` was given them.
@@ -147,7 +125,7 @@ impl Csr {
         ensures keys { result.now ≡ map (λ column. column.0) self.now.columns }
         ensures distinct { AreDistinct result.now }
     {
-        self.keys.as_slice()
+        self.columns.get().keys()
     }
 
     /// Whether each row ascends.
@@ -155,12 +133,7 @@ impl Csr {
         ensures ascend { result ≡ true → HasAscendingRows self.now.rows }
         ensures below { HasTargetsBelow self.now.rows }
     {
-        for v in 0..self.node_count() {
-            if !columns::is_ascending(self.row(v)) {
-                return false;
-            }
-        }
-        true
+        self.columns.get().has_ascending_rows()
     }
 
     /// Whether there is a column under a key.
@@ -175,7 +148,7 @@ impl Csr {
         ensures place { MatchOption result (under key.now self.now.columns ≡ None) (λ place. (place < length self.now.columns) × (under key.now self.now.columns ≡ Some (column_at self.now.columns place))) }
         ensures beside { IfSome result (λ place. IsBeside self.now.rows (column_at self.now.columns place)) }
     {
-        columns::place_of(self.keys.as_slice(), key)
+        self.columns.get().place_of(key)
     }
 
     /// The values of the arcs from `v` under the key at a place, in order.
@@ -186,7 +159,7 @@ impl Csr {
         ensures values { result.now ≡ row_at (column_at self.now.columns place) v }
         ensures beside { length result.now ≡ length (row_at self.now.rows v) }
     {
-        columns::cut(&self.offsets, self.columns[place].as_slice(), v)
+        self.columns.get().values(place, v)
     }
 
     /// The values of the arcs from `v` under a key, in order, `None` where there is no such key.
@@ -198,23 +171,27 @@ impl Csr {
         Some(self.values(place, v))
     }
 
-    /// Every arc turned, in ascending order of the new source and the new target. Equal arcs keep their order.
+    /// Every arc turned, in ascending order of the new source and the new target. Equal arcs keep their order. Rows that
+    /// are their own reverse, as those of undirected relationships mostly are, are shared; whether they are costs a number a
+    /// node, and ends at the first difference.
     ///
     /// # Errors
     /// `Mem` where there is no memory.
     pub fn reverse(&self, alloc: Global) -> Result<Csr, Mem>
         ensures { IfOk result (λ csr. csr ≡ turned_rows self.now) }
     {
-        let Turning {
-            offsets,
-            places,
-            sources,
-        } = turning::turn(alloc, &self.offsets, &self.targets)?;
+        let columns = self.columns.get();
+        if columns.is_mirrored(alloc)? {
+            return self.try_clone();
+        }
+        Csr::sharing(alloc, columns.reverse(alloc)?)
+    }
+}
+
+impl TryClone for Csr {
+    fn try_clone(&self) -> Result<Csr, Mem> {
         Ok(Csr {
-            offsets,
-            targets: columns::pick(alloc, &sources, &places)?,
-            keys: self.keys.try_clone()?,
-            columns: columns::pick_each(alloc, &self.columns, &places)?,
+            columns: self.columns.try_clone()?,
         })
     }
 }
@@ -279,6 +256,19 @@ mod tests {
         expect_rows(&rt, &csr, [&[], &[0], &[0, 1, 2], &[], &[3, 3], &[]]);
         let key = Name::read(rt.alloc(), b"w")?;
         expect_values(&rt, &csr, &key, [&[], &[4], &[7, 1, 0], &[], &[5, 2], &[]]);
+        Ok(())
+    }
+
+    #[test]
+    fn arcs_both_ways(rt: HostRuntime) -> Result<(), Fail> {
+        let ends = [(0, 1), (0, 3), (1, 0), (2, 2), (3, 0)];
+        let values = vec![in rt.alloc(); 4, 7, 4, 1, 7]?;
+        let mut props = List::new(rt.alloc());
+        props.push((Name::read(rt.alloc(), b"w")?, List::from_vec(values)))?;
+        let csr = Csr::build(rt.alloc(), 6, &ends, props)?.reverse(rt.alloc())?;
+        expect_rows(&rt, &csr, [&[1, 3], &[0], &[2], &[0], &[], &[]]);
+        let key = Name::read(rt.alloc(), b"w")?;
+        expect_values(&rt, &csr, &key, [&[4, 7], &[4], &[1], &[7], &[], &[]]);
         Ok(())
     }
 

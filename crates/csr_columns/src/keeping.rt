@@ -5,7 +5,7 @@ ghost use Rattle.graph_model.specs.Projection.{is_among};
 ghost use Rattle.csr_columns.specs.Parts.{IsLong};
 ghost use Rattle.csr_columns.specs.Plain.{labels_at};
 ghost use Rattle.csr_columns.specs.Choosing.{kept_flags};
-ghost use Rattle.csr_columns.specs.Keeping.{kept_of, renumbered};
+ghost use Rattle.csr_columns.specs.Keeping.{kept_of, kept_places, renumbered};
 
 use crate::columns;
 use graph_model::{Choice, List, Mem, Name, Shared};
@@ -100,4 +100,18 @@ pub(crate) fn kept_ids(alloc: Global, kept: &[bool], ids: &[u32]) -> Result<List
         }
     }
     Ok(List::from_vec(list))
+}
+
+/// The kept nodes.
+pub(crate) fn kept_nodes(alloc: Global, kept: &[bool]) -> Result<Vec<u32>, Mem>
+    requires { length kept.now < 2 ^ 32 }
+    ensures { IfOk result (λ nodes. nodes.items ≡ kept_places 0 kept.now) }
+{
+    let mut nodes = Vec::new(alloc);
+    for (v, flag) in kept.iter().enumerate() {
+        if *flag {
+            nodes.push(v as u32)?;
+        }
+    }
+    Ok(nodes)
 }

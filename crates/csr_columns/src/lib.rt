@@ -7,14 +7,15 @@
 #![tactic(auto)]
 
 mod adding;
+mod arc_columns;
 mod choosing;
 mod columns;
 mod counting;
 mod csr;
-mod gathering;
 mod keeping;
 pub mod laws;
-mod ordering;
+mod merging;
+mod mirroring;
 mod parts;
 mod projection;
 mod taking;

@@ -7,11 +7,12 @@ ghost use Rattle.csr_columns.specs.Order.{ordered, itself, arc_beside};
 ghost use Rattle.csr_columns.specs.Parts.{HasNodes, arcs_in, arcs_in_rows};
 ghost use Rattle.csr_columns.specs.Choosing.{chosen, has_column};
 ghost use Rattle.csr_columns.specs.Keeping.{HasArcsBelow, HasPlacesBelow, HasValuesBeside, arcs_beside, taken_arcs, taken_of};
+ghost use Rattle.csr_columns.specs.Merging.{IsNumbering};
 
 use crate::csr::Csr;
-use crate::gathering;
+use crate::merging;
 use crate::parts::TypeColumns;
-use graph_model::{Choice, List, Mem, Name, TryClone};
+use graph_model::{Choice, Mem, Name};
 use std::alloc::Global;
 
 /// The arcs of the chosen types whose ends both get places, in ascending order.
@@ -21,18 +22,20 @@ pub(crate) fn bare_rows(
     types: &[TypeColumns],
     choice: &Choice,
     places: &[Option<u32>],
+    kept: &[u32],
 ) -> Result<Csr, Mem>
     requires rows { All (HasNodes (length places.now)) types.now }
     requires few { arcs_in types.now ≤ most_arcs }
     requires places { HasPlacesBelow nodes places.now }
+    requires kept { IsNumbering places.now kept.now }
+    requires many { length kept.now ≡ nodes }
     ensures nodes { IfOk result (λ csr. length csr.rows ≡ nodes) }
     ensures few { IfOk result (λ csr. arcs_in_rows csr ≤ most_arcs) }
     ensures arcs { IfOk result (λ csr. arcs_of csr.rows ≡ ordered itself nodes (flat_map (taken_arcs places.now) (chosen choice.now types.now))) }
     ensures below { IfOk result (λ _. All HasArcsBelow (chosen choice.now types.now)) }
 {
-    let mut ends = Vec::new(alloc);
-    gathering::gather_arcs(&mut ends, types, choice, places)?;
-    let csr = Csr::ordered(alloc, nodes, &ends, List::new(alloc), &[])?;
+    let rows = merging::chosen_rows(alloc, types, choice, None)?;
+    let csr = Csr::merged(alloc, nodes, &rows, places, kept, None)?;
     Ok(csr)
 }
 
@@ -43,11 +46,14 @@ pub(crate) fn heavy_rows(
     types: &[TypeColumns],
     choice: &Choice,
     places: &[Option<u32>],
+    kept: &[u32],
     key: &Name,
 ) -> Result<Csr, Mem>
     requires rows { All (HasNodes (length places.now)) types.now }
     requires few { arcs_in types.now ≤ most_arcs }
     requires places { HasPlacesBelow nodes places.now }
+    requires kept { IsNumbering places.now kept.now }
+    requires many { length kept.now ≡ nodes }
     requires key { list_all (has_column key.now) (chosen choice.now types.now) ≡ true }
     ensures nodes { IfOk result (λ csr. length csr.rows ≡ nodes) }
     ensures few { IfOk result (λ csr. arcs_in_rows csr ≤ most_arcs) }
@@ -56,13 +62,7 @@ pub(crate) fn heavy_rows(
     ensures below { IfOk result (λ _. All HasArcsBelow (chosen choice.now types.now)) }
     ensures beside { IfOk result (λ _. All (HasValuesBeside key.now) (chosen choice.now types.now)) }
 {
-    let mut ends = Vec::new(alloc);
-    gathering::gather_arcs(&mut ends, types, choice, places)?;
-    let mut weights = Vec::new(alloc);
-    gathering::gather_weights(&mut weights, types, choice, places, key)?;
-    let mut keys = List::new(alloc);
-    keys.push(key.try_clone()?)?;
-    let columns = [List::from_vec(weights)];
-    let csr = Csr::ordered(alloc, nodes, &ends, keys, &columns)?;
+    let rows = merging::chosen_rows(alloc, types, choice, Some(key))?;
+    let csr = Csr::merged(alloc, nodes, &rows, places, kept, Some(key))?;
     Ok(csr)
 }

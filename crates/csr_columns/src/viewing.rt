@@ -9,6 +9,7 @@ ghost use Rattle.csr_columns.specs.Plain.{plain};
 ghost use Rattle.csr_columns.specs.ViewParts.{StandsAmong, plain_view_of, view_shown};
 ghost use Rattle.csr_columns.specs.Choosing.{IsWhole, chosen, has_column, kept_flags, first_directed_kind};
 ghost use Rattle.csr_columns.specs.Keeping.{HasPlacesBelow, kept_of, renumbered};
+ghost use Rattle.csr_columns.specs.Merging.{IsNumbering};
 ghost use Rattle.graph_model.specs.Graph.{most_nodes};
 
 use crate::parts::TypeColumns;
@@ -18,11 +19,12 @@ use crate::{choosing, keeping, taking};
 use graph_model::{Choice, List, Mem, Name, Refusal, Shared, TryClone};
 use std::alloc::Global;
 
-/// The kept nodes: their ids, and for each node the place that it gets.
+/// The kept nodes: their ids, for each node the place that it gets, and the nodes at those places.
 #[derive(Drop)]
 struct Kept {
     ids: List<u32>,
     places: Vec<Option<u32>>,
+    nodes: Vec<u32>,
 }
 
 impl Projection {
@@ -165,8 +167,9 @@ impl Projection {
     fn bare_copy(&self, alloc: Global, labels: &Choice, types: &Choice) -> Result<View, Mem>
         ensures { IfOk result (λ view. plain_view_of view ≡ plain_view (plain self.now) labels.now types.now None) }
     {
-        let Kept { ids, places } = self.keep(alloc, labels)?;
-        let arcs = taking::bare_rows(alloc, ids.len() as u32, self.types(), types, &places)?;
+        let Kept { ids, places, nodes } = self.keep(alloc, labels)?;
+        let (count, types_of) = (ids.len() as u32, self.types());
+        let arcs = taking::bare_rows(alloc, count, types_of, types, &places, &nodes)?;
         Ok(View {
             ids: Shared::new(alloc, ids)?,
             arcs: Shared::new(alloc, arcs)?,
@@ -186,8 +189,9 @@ impl Projection {
         requires { list_all (has_column key.now) (chosen types.now self.now.types) ≡ true }
         ensures { IfOk result (λ view. plain_view_of view ≡ plain_view (plain self.now) labels.now types.now (Some key.now)) }
     {
-        let Kept { ids, places } = self.keep(alloc, labels)?;
-        let arcs = taking::heavy_rows(alloc, ids.len() as u32, self.types(), types, &places, key)?;
+        let Kept { ids, places, nodes } = self.keep(alloc, labels)?;
+        let (count, types_of) = (ids.len() as u32, self.types());
+        let arcs = taking::heavy_rows(alloc, count, types_of, types, &places, &nodes, key)?;
         Ok(View {
             ids: Shared::new(alloc, ids)?,
             arcs: Shared::new(alloc, arcs)?,
@@ -204,12 +208,15 @@ impl Projection {
         ensures below { IfOk result (λ kept. HasPlacesBelow (length kept.ids) kept.places.items) }
         ensures few { IfOk result (λ kept. length kept.ids ≤ most_nodes) }
         ensures ascend { IfOk result (λ kept. IsStrictlyIncreasing kept.ids) }
+        ensures numbered { IfOk result (λ kept. IsNumbering kept.places.items kept.nodes.items) }
+        ensures many { IfOk result (λ kept. length kept.nodes.items ≡ length kept.ids) }
         ensures sorted { OnOk result (IsStrictlyIncreasing self.now.ids) }
     {
         let kept = self.kept_flags(alloc, labels)?;
         let ids = keeping::kept_ids(alloc, &kept, self.ids())?;
         let places = keeping::new_places(alloc, &kept)?;
-        Ok(Kept { ids, places })
+        let nodes = keeping::kept_nodes(alloc, &kept)?;
+        Ok(Kept { ids, places, nodes })
     }
 }
 

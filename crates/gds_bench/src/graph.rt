@@ -54,6 +54,20 @@ pub(crate) fn sorted_arcs(
     Ok(arcs)
 }
 
+/// The arcs of the first half of some, each both ways with its value, in ascending order.
+pub(crate) fn both_ways(
+    alloc: Global,
+    arcs: &[(u32, u32, i64)],
+) -> Result<Vec<(u32, u32, i64)>, Mem> {
+    let mut both = Vec::with_capacity(alloc, arcs.len())?;
+    for (source, target, value) in &arcs[..arcs.len() / 2] {
+        both.push((*source, *target, *value))?;
+        both.push((*target, *source, *value))?;
+    }
+    both.sort_unstable();
+    Ok(both)
+}
+
 /// The ends of arcs, and beside them their values.
 pub(crate) fn apart(
     alloc: Global,

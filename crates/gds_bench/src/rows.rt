@@ -17,23 +17,40 @@ const MOST_NODES: u32 = 4_194_304;
 
 const MOST_ARCS: u32 = 67_108_864;
 
-/// Builds the rows of a graph, reverses them, and takes the views of all nodes: of one type with these rows, and of two.
+/// Reverses rows that have half of the arcs of a graph both ways. Then builds the rows of the graph, reverses them, and takes
+/// the views of all nodes: of one type with these rows, and of two.
 pub(crate) fn run(rt: &HostRuntime, nodes: u32, arcs: u32, meter: &Meter) -> Result<(), Stop> {
     if nodes == 0 {
         return Err(Stop::Limit);
     }
     let arcs = graph::sorted_arcs(rt.alloc(), nodes, arcs)?;
+    mirror(rt, nodes, graph::both_ways(rt.alloc(), &arcs)?, meter)?;
     let (ends, values) = graph::apart(rt.alloc(), &arcs)?;
     drop(arcs);
-    let rows = build(rt, nodes, &ends, values, meter)?;
+    let rows = build(rt, "build", nodes, &ends, values, meter)?;
     drop(ends);
-    reverse(rt, &rows, meter)?;
+    reverse(rt, "reverse", &rows, meter)?;
     views(rt, &Shared::new(rt.alloc(), rows)?, meter)
+}
+
+// The reverse of rows that are their own.
+fn mirror(
+    rt: &HostRuntime,
+    nodes: u32,
+    arcs: Vec<(u32, u32, i64)>,
+    meter: &Meter,
+) -> Result<(), Stop> {
+    let (ends, values) = graph::apart(rt.alloc(), &arcs)?;
+    drop(arcs);
+    let rows = build(rt, "both", nodes, &ends, values, meter)?;
+    drop(ends);
+    reverse(rt, "mirror", &rows, meter)
 }
 
 // The rows of arcs that ascend.
 fn build(
     rt: &HostRuntime,
+    work: &str,
     nodes: u32,
     ends: &[(u32, u32)],
     values: List<i64>,
@@ -51,16 +68,16 @@ fn build(
     props.push((Name::read(rt.alloc(), b"w")?, values))?;
     let start = Instant::now(rt)?;
     let csr = Csr::build(rt.alloc(), nodes, ends, props)?;
-    meter.tell(rt, "build", start)?;
-    tell(rt, "build", &csr)?;
+    meter.tell(rt, work, start)?;
+    tell(rt, work, &csr)?;
     Ok(csr)
 }
 
-fn reverse(rt: &HostRuntime, csr: &Csr, meter: &Meter) -> Result<(), Stop> {
+fn reverse(rt: &HostRuntime, work: &str, csr: &Csr, meter: &Meter) -> Result<(), Stop> {
     let start = Instant::now(rt)?;
     let reversed = csr.reverse(rt.alloc())?;
-    meter.tell(rt, "reverse", start)?;
-    tell(rt, "reverse", &reversed)
+    meter.tell(rt, work, start)?;
+    tell(rt, work, &reversed)
 }
 
 // The views of all nodes, and of one type or two with the same rows.

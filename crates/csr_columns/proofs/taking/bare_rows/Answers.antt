@@ -1,19 +1,23 @@
-use Rattle.std.proofs.Common.{arith}
-use Rattle.csr_columns.specs.Choosing.{chosen}
-use Rattle.csr_columns.proofs.Taken.{length-taken, taken-below}
+use Rattle.std.proofs.Common.{arith, length, None}
+use Rattle.std.proofs.lemmas.List.Elements.{All-filter}
+use Rattle.csr_columns.specs.Parts.{HasNodes}
+use Rattle.csr_columns.specs.Choosing.{chosen, chooses_kind}
+use Rattle.csr_columns.proofs.MergedRows.{chosen-rows, merged-few, merged-bare}
 use Rattle.csr_columns.proofs.taking.bare_rows.Goals as goal
 
-pub ordered-requires-clause-few : goal.ordered-requires-clause-few
-ordered-requires-clause-few c =
-    rw (c.deref.ensures.value, c.in_ok-gather_arcs.ensures.arcs, c.new-ends.ensures.items)
-    (omega (arith, length-taken c.args.places.now c.args.choice.now c.args.types.now))
+pub merged-requires-clause-rows : goal.merged-requires-clause-rows
+merged-requires-clause-rows c =
+    rw (c.deref.ensures.value, c.in_ok-rows.ensures.rows)
+    (chosen-rows (length c.args.places.now) None c.args.choice.now c.args.types.now c.requires.rows)
 
-pub ordered-requires-clause-below : goal.ordered-requires-clause-below
-ordered-requires-clause-below c =
-    rw (c.deref.ensures.value, c.in_ok-gather_arcs.ensures.arcs, c.new-ends.ensures.items)
-    (taken-below c.args.nodes c.args.places.now c.requires.places (chosen c.args.choice.now c.args.types.now))
+pub merged-requires-clause-few : goal.merged-requires-clause-few
+merged-requires-clause-few c =
+    rw (c.deref.ensures.value, c.in_ok-rows.ensures.rows)
+    (omega (arith, c.requires.few, merged-few c.args.nodes c.args.places.now c.args.kept.now None c.args.choice.now c.args.types.now c.requires.kept c.requires.many c.requires.rows c.in_ok-rows.ensures.beside))
 
-pub returns-clause-few : goal.returns-clause-few
-returns-clause-few c =
-    let many = rw (c.deref.ensures.value, c.in_ok-gather_arcs.ensures.arcs, c.new-ends.ensures.items) at c.in_ok-csr.ensures.many in
-    omega (arith, many, length-taken c.args.places.now c.args.choice.now c.args.types.now)
+pub returns-clause-arcs : goal.returns-clause-arcs
+returns-clause-arcs c =
+    let types = chosen c.args.choice.now c.args.types.now in
+    let long = All-filter (chooses_kind c.args.choice.now) (HasNodes (length c.args.places.now)) c.args.types.now c.requires.rows in
+    rw (c.in_ok-csr.ensures.rows, c.deref.ensures.value, c.in_ok-rows.ensures.rows)
+    (merged-bare c.args.nodes c.args.places.now c.args.kept.now c.requires.kept c.requires.many types long c.in_ok-rows.ensures.beside)

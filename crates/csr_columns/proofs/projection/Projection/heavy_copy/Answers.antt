@@ -3,9 +3,9 @@ use Rattle.csr_columns.proofs.projection.Projection.heavy_copy.Goals as goal
 
 pub returns : goal.returns
 returns c =
-    let rows = rw (c.types.ensures.types) at c.types.ensures.rows in
-    let below = rw (c.types.ensures.types) at c.in_ok-arcs.ensures.below in
-    let beside = rw (c.types.ensures.types) at c.in_ok-arcs.ensures.beside in
-    let arcs = rw (c.types.ensures.types, c.len.ensures, c.deref.ensures.value, c.in_ok-ids.ensures.ids, c.in_ok-ids.ensures.places) at c.in_ok-arcs.ensures.entries in
-    rw (c.in_ok-new.ensures, c.in_ok-new-2.ensures, c.in_ok-directed.ensures, c.types-2.ensures.types, c.in_ok-ids.ensures.ids)
+    let rows = rw (c.types-types_of.ensures.types) at c.types-types_of.ensures.rows in
+    let below = rw (c.types-types_of.ensures.types) at c.in_ok-arcs.ensures.below in
+    let beside = rw (c.types-types_of.ensures.types) at c.in_ok-arcs.ensures.beside in
+    let arcs = rw (c.types-types_of.ensures.types, c.len.ensures, c.deref.ensures.value, c.in_ok-ids.ensures.ids, c.in_ok-ids.ensures.places) at c.in_ok-arcs.ensures.entries in
+    rw (c.in_ok-new.ensures, c.in_ok-new-2.ensures, c.in_ok-directed.ensures, c.types.ensures.types, c.in_ok-ids.ensures.ids)
     (viewed-heavy c.args.self.now c.args.labels.now c.args.types.now c.in_ok-ids.ensures.sorted rows below c.args.key.now c.requires beside 0 c.in_ok-arcs.arcs arcs)

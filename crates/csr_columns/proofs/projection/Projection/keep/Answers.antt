@@ -3,6 +3,7 @@ use Rattle.std.proofs.lemmas.List.FromFn.{length-map-range_with_len}
 use Rattle.csr_columns.specs.Choosing.{is_kept, kept_flags}
 use Rattle.csr_columns.specs.Keeping.{kept_of}
 use Rattle.csr_columns.proofs.Increasing.{Ascends-from_increasing, increasing-from_Ascends}
+use Rattle.csr_columns.proofs.Numbering.{IsNumbering-kept, length-kept_places}
 use Rattle.csr_columns.proofs.Renumbering.{Ascends-kept, length-kept, length-renumbered, HasPlacesBelow-kept}
 use Rattle.csr_columns.proofs.projection.Projection.keep.Goals as goal
 
@@ -40,3 +41,19 @@ returns-clause-ascend c =
     let up = rw c.ids.ensures.ids at c.ids.ensures.ascend in
     rw (c.in_ok-ids.ensures, c.deref.ensures.value, c.ids.ensures.ids, c.in_ok-kept.ensures)
     (increasing-from_Ascends (kept_of flags c.args.self.now.ids) (Ascends-kept flags c.args.self.now.ids (Ascends-from_increasing c.args.self.now.ids up)))
+
+pub kept_nodes-requires : goal.kept_nodes-requires
+kept_nodes-requires c =
+    rw (c.deref-3.ensures.value, c.in_ok-kept.ensures)
+    (omega (arith, length-map-range_with_len (is_kept c.args.labels.now c.args.self.now.labels) 0 (length c.args.self.now.ids), c.ids.ensures.few, ap (λ (xs : List ℕ). length xs) c.ids.ensures.ids))
+
+pub returns-clause-numbered : goal.returns-clause-numbered
+returns-clause-numbered c =
+    rw (c.in_ok-places.ensures, c.deref-2.ensures.value, c.in_ok-nodes.ensures, c.deref-3.ensures.value)
+    (IsNumbering-kept c.in_ok-kept.kept.items)
+
+pub returns-clause-many : goal.returns-clause-many
+returns-clause-many c =
+    let flags = kept_flags c.args.labels.now c.args.self.now.labels (length c.args.self.now.ids) in
+    rw (c.in_ok-nodes.ensures, c.deref-3.ensures.value, c.in_ok-kept.ensures, c.in_ok-ids.ensures, c.deref.ensures.value, c.ids.ensures.ids, c.in_ok-kept.ensures)
+    (length-kept_places 0 flags c.args.self.now.ids (length-map-range_with_len (is_kept c.args.labels.now c.args.self.now.labels) 0 (length c.args.self.now.ids)))
