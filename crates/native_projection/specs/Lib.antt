@@ -1,0 +1,2 @@
+-- How a projection is made of its parts.
+pub mod Making
