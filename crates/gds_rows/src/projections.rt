@@ -1,10 +1,12 @@
 // Stores projected by specifications, each as a text.
-ghost use Rattle.std.specs.Prelude.{◌≤◌};
+ghost use Rattle.std.specs.Prelude.{◌≤◌, IfOk};
+ghost use Rattle.graph_model.specs.Change.{IsWellFormedChange};
+ghost use Rattle.desk_model.specs.Script.{IsFormedCall};
 
 use call_codec::line_call;
 use csr_columns::{Csr, Projection, TypeColumns};
 use desk_model::Call;
-use graph_model::{List, Name, PropertyGraph, Refusal};
+use graph_model::{Change, List, Mem, Name, PropertyGraph, Refusal};
 use graph_store::{Snapshot, Store};
 use native_projection::project;
 use projection_spec::ProjectSpec;
@@ -55,31 +57,57 @@ fn put_name(shown: &mut String, name: &Name) -> Result<(), Fail> {
     Ok(())
 }
 
-// A store after the making of these nodes and relationships, at one moment.
-fn store_of(alloc: Global, made: &str) -> Result<Snapshot, Fail> {
+// The change of a call that makes nodes and relationships.
+fn change_of(call: Call) -> Result<Change, Fail>
+    requires { IsFormedCall call }
+    ensures { IfOk result IsWellFormedChange }
+{
+    match call {
+        Call::Create { import: _, change } => Ok(change),
+        _ => Err("another call".into()),
+    }
+}
+
+// The change that a line asks for.
+fn change_asked(alloc: Global, line: &[u8]) -> Result<Change, Fail>
+    ensures { IfOk result IsWellFormedChange }
+{
+    if line.len() > 16_777_216 {
+        return Err("a line that is too long".into());
+    }
+    let (_user, call) = line_call(alloc, line)?;
+    change_of(call)
+}
+
+// A store with nothing in it.
+fn empty_store(alloc: Global) -> Result<Store, Mem> {
     let nothing = PropertyGraph {
         nodes: List::new(alloc),
         rels: List::new(alloc),
         next_node: 0,
         next_rel: 0,
     };
-    let mut store = Store::of(alloc, nothing)?;
+    Store::of(alloc, nothing)
+}
+
+// A store after a change, at one moment.
+fn after(alloc: Global, change: &Change) -> Result<Snapshot, Refusal>
+    requires { IsWellFormedChange change.now }
+{
+    let mut store = empty_store(alloc)?;
+    let made = store.prepare(alloc, change)?;
+    store.apply(made);
+    Ok(store.snapshot()?)
+}
+
+// A store after the making of these nodes and relationships, at one moment.
+fn store_of(alloc: Global, made: &str) -> Result<Snapshot, Fail> {
     let (nodes, rels) = made.split_once(";").ok_or("relationships")?;
     let line = format!(in alloc;
         "{{\"user\":\"u\",\"call\":\"gds.store.create\",\"args\":{{\"nodes\":{nodes},\"relationships\":[{rels}]}}}}"
     )?;
-    if line.len() > 16_777_216 {
-        return Err("a line that is too long".into());
-    }
-    match line_call(alloc, line.as_bytes()) {
-        Ok((_, Call::Create { import: _, change })) => {
-            let made = store.prepare(alloc, &change)?;
-            store.apply(made);
-            Ok(store.snapshot()?)
-        }
-        Ok(_) => Err("another call".into()),
-        Err(why) => Err(why.into()),
-    }
+    let change = change_asked(alloc, line.as_bytes())?;
+    Ok(after(alloc, &change)?)
 }
 
 // The store of a row.
