@@ -1,7 +1,7 @@
 // Projections: nodes with labels and values, and arcs by type, in columns.
-ghost use Rattle.std.specs.Prelude.{◌≡◌, ◌<◌, ◌≤◌, true, false, length, IfOk, IfErr, OnOk, All};
+ghost use Rattle.std.specs.Prelude.{◌≡◌, ◌<◌, ◌≤◌, true, false, length, IfOk, IfErr, IfSome, OnOk, All, option_copied};
 ghost use Rattle.std.specs.List.Sorted.{IsStrictlyIncreasing};
-ghost use Rattle.graph_model.specs.Projection.{most_arcs, is_among, with_column};
+ghost use Rattle.graph_model.specs.Projection.{most_arcs, is_among, under, with_column};
 ghost use Rattle.graph_model.specs.Graph.{most_nodes};
 ghost use Rattle.graph_model.specs.Refusals.{UnlessMem};
 ghost use Rattle.csr_columns.specs.Rows.{names_of};
@@ -114,6 +114,17 @@ impl Projection {
         }
     }
 
+    /// The values of all nodes under a key, by place, `None` where there is no such key.
+    pub fn values(&self, key: &Name) -> Option<&[i64]>
+        ensures values { option_copied result ≡ under key.now self.now.columns }
+        ensures long { IfSome result (λ values. length values.now ≡ length self.now.ids) }
+    {
+        match columns::column_under(self.keys.as_slice(), self.columns.as_slice(), key) {
+            Some(values) => Some(values),
+            None => None,
+        }
+    }
+
     /// The projected types, ascending by name. The rows of each are those of all nodes.
     #[inline]
     pub fn types(&self) -> &[TypeColumns]
@@ -167,8 +178,11 @@ impl Projection {
         self.ids.try_clone()
     }
 
-    // Whether each node has a chosen label.
-    pub(crate) fn kept_flags(&self, alloc: Global, labels: &Choice) -> Result<Vec<bool>, Mem>
+    /// Whether each node has a chosen label, by place.
+    ///
+    /// # Errors
+    /// `Mem` where there is no memory for it.
+    pub fn kept_flags(&self, alloc: Global, labels: &Choice) -> Result<Vec<bool>, Mem>
         ensures { IfOk result (λ kept. kept.items ≡ kept_flags labels.now self.now.labels (length self.now.ids)) }
     {
         let nodes = self.ids.get().len();
