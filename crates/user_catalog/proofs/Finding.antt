@@ -155,8 +155,8 @@ pub changes_keep_catalog : ChangesKeepCatalog
 changes_keep_catalog c (InsertGraph name graph) is =
     kept_unless (refused_insert c name) c (after_insert c name graph)
     (λ allowed.
-    let first = first_there-none (name_taken name (under name c.entries)) (first_there (graphs_spent c) (versions_spent c)) allowed in
-    let second = first_there-none (graphs_spent c) (versions_spent c) first.1 in
+    let first = first_there-none (name_taken name (under name c.entries)) (first_there (graphs_spent (length c.entries)) (versions_spent c.last)) allowed in
+    let second = first_there-none (graphs_spent (length c.entries)) (versions_spent c.last) first.1 in
     catalog-inserted c name graph (free name (under name c.entries) first.0)
     (ltb-true (length c.entries) most_graphs (has_room (nat_lt (length c.entries) most_graphs) (TooManyGraphs most_graphs) second.0)) is)
     is

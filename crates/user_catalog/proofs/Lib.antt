@@ -3,3 +3,4 @@ pub mod Places
 pub mod Valid
 pub mod Refusing
 pub mod Finding
+pub mod Mapped

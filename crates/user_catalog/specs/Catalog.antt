@@ -5,7 +5,9 @@
 --   is_behind name entry              whether an entry stands behind a name
 --   inserted name entry entries       entries with one more, put where its name belongs
 --   removed name entries              entries without the one under a name
+--   mapped f entries                  entries with other values under their names
 --   widened name key column entries   entries with one more column in the graph under a name
+--   refused_graph name entries last   why no graph can be kept under a name among these, with this last version
 --   refused_insert c name             why no graph can be kept under a name
 --   after_insert c name graph         what keeping a graph leaves: it stands under the next version
 --   after_remove c name               what dropping a graph leaves: the last version stays
@@ -53,22 +55,27 @@ no_graphs = record { entries = []; last = 0 }
 -- ---- entries
 
 -- whether an entry stands under a name
-abbrev pub is_named : List ℕ → List ℕ × Entry → Bool
+abbrev pub is_named : {A : Type 0} → List ℕ → List ℕ × A → Bool
 is_named name entry = bytes_eq entry.0 name
 
 -- whether an entry stands behind a name
-abbrev pub is_behind : List ℕ → List ℕ × Entry → Bool
+abbrev pub is_behind : {A : Type 0} → List ℕ → List ℕ × A → Bool
 is_behind name entry = is_lt (slice_cmp nat_cmp name entry.0)
 
 -- entries with one more, put before the first that stands behind its name
-abbrev pub inserted : List ℕ → Entry → List (List ℕ × Entry) → List (List ℕ × Entry)
+abbrev pub inserted : {A : Type 0} → List ℕ → A → List (List ℕ × A) → List (List ℕ × A)
 inserted name entry [] = (name, entry) ∷ []
 inserted name entry (first ∷ rest) = if is_behind name first then (name, entry) ∷ first ∷ rest else first ∷ inserted name entry rest
 
 -- entries without the one under a name
-abbrev pub removed : List ℕ → List (List ℕ × Entry) → List (List ℕ × Entry)
+abbrev pub removed : {A : Type 0} → List ℕ → List (List ℕ × A) → List (List ℕ × A)
 removed name [] = []
 removed name (first ∷ rest) = if is_named name first then rest else first ∷ removed name rest
+
+-- entries with other values under their names
+abbrev pub mapped : {A B : Type 0} → (A → B) → List (List ℕ × A) → List (List ℕ × B)
+mapped f [] = []
+mapped f (entry ∷ entries) = (entry.0, f entry.1) ∷ mapped f entries
 
 -- an entry with one more column in its graph, under its old version
 abbrev pub wider : List ℕ → Column → Entry → Entry
@@ -82,21 +89,25 @@ widened name key column (first ∷ rest) = if is_named name first then (first.0,
 -- ---- keeping a graph
 
 -- why a name is free for no graph: there is one
-abbrev pub name_taken : List ℕ → Option Entry → Option Refusal
+abbrev pub name_taken : {A : Type 0} → List ℕ → Option A → Option Refusal
 name_taken name None = None
 name_taken name (Some entry) = Some (GraphExists name)
 
 -- why there is no room for a graph: there are as many as a user may have
-abbrev pub graphs_spent : NamedGraphs → Option Refusal
-graphs_spent c = if nat_lt (length c.entries) most_graphs then None else Some (TooManyGraphs most_graphs)
+abbrev pub graphs_spent : ℕ → Option Refusal
+graphs_spent count = if nat_lt count most_graphs then None else Some (TooManyGraphs most_graphs)
 
 -- why there is no version for a graph: the greatest one was given
-abbrev pub versions_spent : NamedGraphs → Option Refusal
-versions_spent c = if nat_lt c.last greatest_version then None else Some (CounterSpent Versions greatest_version)
+abbrev pub versions_spent : ℕ → Option Refusal
+versions_spent last = if nat_lt last greatest_version then None else Some (CounterSpent Versions greatest_version)
+
+-- why no graph can be kept under a name among these, with this last version: the first cause in order
+abbrev pub refused_graph : {A : Type 0} → List ℕ → List (List ℕ × A) → ℕ → Option Refusal
+refused_graph name entries last = first_there (name_taken name (under name entries)) (first_there (graphs_spent (length entries)) (versions_spent last))
 
 -- why no graph can be kept under a name: the first cause in order
 abbrev pub refused_insert : NamedGraphs → List ℕ → Option Refusal
-refused_insert c name = first_there (name_taken name (under name c.entries)) (first_there (graphs_spent c) (versions_spent c))
+refused_insert c name = refused_graph name c.entries c.last
 
 -- a graph under the next version
 abbrev pub next_entry : NamedGraphs → Parts → Entry
