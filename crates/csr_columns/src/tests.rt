@@ -145,6 +145,18 @@ fn nodes_are_read(rt: HostRuntime) -> Result<(), Fail> {
     Ok(())
 }
 
+#[test]
+fn columns_are_read(rt: HostRuntime) -> Result<(), Fail> {
+    let alloc = rt.alloc();
+    let sample = sample(alloc)?;
+    let values = sample.values(&Name::read(alloc, b"x")?);
+    assert_eq!(rt; values, Some([5, -6, 7, -8].as_slice()));
+    assert!(rt; sample.values(&Name::read(alloc, b"B")?).is_none());
+    let kept = sample.kept_flags(alloc, &of_names(alloc, b"B")?)?;
+    assert_eq!(rt; kept.as_slice(), [false, true, false, true].as_slice());
+    Ok(())
+}
+
 // A column for nodes 10 and 40, and for an id that isn't there.
 fn column(alloc: Global) -> Result<Column, Fail> {
     Ok(Column {
