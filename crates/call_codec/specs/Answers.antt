@@ -5,11 +5,13 @@
 --   refusal_fields                          what is told of a refusal beside
 --   refusal_text                            the text of a refusal
 --   change_fields                           what a change did
+--   items_behind text before items          the texts of items, with commas between them
 --   row_text, rows_text                     the rows of a column
+--   graph_text, job_text                    a named graph, and a job
 --   ok_fields reply                         what a reply tells that isn't a refusal
 --   answer_of reply                         the text of a reply
 --   line_answer reply                       the same as a line
-use Rattle.std.specs.Prelude.{ℕ, ℤ, List, [], ◌∷◌, ◌++◌, codes, decimal}
+use Rattle.std.specs.Prelude.{ℕ, ℤ, Bool, true, false, List, [], ◌∷◌, ◌++◌, Option, None, Some, codes, decimal}
 use Rattle.std.specs.Fmt.{signed_decimal}
 use Rattle.graph_model.specs.declared.change.ChangeReply.{ChangeReply}
 use Rattle.graph_model.specs.declared.change.ChangeReply.TheVariants.{Created, «Set», Deleted}
@@ -25,6 +27,10 @@ use Rattle.graph_model.specs.declared.refusal.Counter.{Counter}
 use Rattle.graph_model.specs.declared.refusal.Counter.TheVariants as counter
 use Rattle.graph_model.specs.declared.refusal.Refusal.{Refusal}
 use Rattle.graph_model.specs.declared.refusal.Refusal.TheVariants as why
+use Rattle.desk_model.specs.declared.job.JobKind.{JobKind}
+use Rattle.desk_model.specs.declared.job.JobKind.TheVariants as stage
+use Rattle.desk_model.specs.declared.lines.GraphLine.{GraphLine}
+use Rattle.desk_model.specs.declared.lines.JobLine.{JobLine}
 use Rattle.desk_model.specs.Replies as reply
 use Rattle.desk_model.specs.Replies.{PlainReply}
 
@@ -190,24 +196,82 @@ change_fields (Created first_node nodes first_rel rels) =
 change_fields («Set» pairs) = first_field (codes "set") pairs
 change_fields (Deleted nodes rels) = first_field (codes "nodes") nodes ++ number_field (codes "relationships") rels
 
--- the row of a node
-abbrev pub row_text : ℕ × ℤ → List ℕ
-row_text row = codes "{" ++ first_field (codes "nodeId") row.0 ++ whole_field (codes "value") row.1 ++ codes "}"
+-- the texts of items, the first behind this text, and each later one behind a comma
+abbrev pub items_behind : {A : Type 0} → (A → List ℕ) → List ℕ → List A → List ℕ
+items_behind text before [] = []
+items_behind text before (item ∷ items) = before ++ text item ++ items_behind text (codes ",") items
 
--- rows, the first behind this text, and each later one behind a comma
-abbrev pub rows_behind : List ℕ → List (ℕ × ℤ) → List ℕ
-rows_behind before [] = []
-rows_behind before (row ∷ rows) = before ++ row_text row ++ rows_behind (codes ",") rows
+-- the row of a node, its value in a field of this name
+abbrev pub row_text : List ℕ → ℕ × ℤ → List ℕ
+row_text name row = codes "{" ++ first_field (codes "nodeId") row.0 ++ whole_field name row.1 ++ codes "}"
 
 -- the rows of a column
-abbrev pub rows_text : List (ℕ × ℤ) → List ℕ
-rows_text rows = codes "\"rows\":[" ++ rows_behind [] rows ++ codes "]"
+abbrev pub rows_text : List ℕ → List (ℕ × ℤ) → List ℕ
+rows_text name rows = codes "\"rows\":[" ++ items_behind (row_text name) [] rows ++ codes "]"
 
--- the fields of a reply that isn't a refusal
+-- a text in quotes
+abbrev pub quoted : List ℕ → List ℕ
+quoted text = codes "\"" ++ text ++ codes "\""
+
+-- the first field of an object, a text
+unfoldable pub first_text_field : List ℕ → List ℕ → List ℕ
+first_text_field name text = codes "\"" ++ name ++ codes "\":\"" ++ text ++ codes "\""
+
+-- a further field, true or false
+abbrev pub flag_word : Bool → List ℕ
+flag_word true = codes "true"
+flag_word false = codes "false"
+
+unfoldable pub flag_field : List ℕ → Bool → List ℕ
+flag_field name flag = field_name name ++ flag_word flag
+
+-- what is told of each named graph
+abbrev pub graph_fields : GraphLine → List ℕ
+graph_fields line =
+    first_text_field (codes "graphName") line.name ++ number_field (codes "nodeCount") line.nodes
+    ++ number_field (codes "relationshipCount") line.arcs ++ number_field (codes "version") line.version
+
+-- a named graph with its node keys
+abbrev pub graph_text : GraphLine → List ℕ
+graph_text line =
+    codes "{" ++ graph_fields line ++ codes ",\"nodeProperties\":[" ++ items_behind quoted [] line.keys ++ codes "]}"
+
+-- named graphs
+abbrev pub graphs_text : List GraphLine → List ℕ
+graphs_text lines = codes "\"graphs\":[" ++ items_behind graph_text [] lines ++ codes "]"
+
+-- the name of the job that made a graph, where it is told
+abbrev pub maker_field : Option (List ℕ) → List ℕ
+maker_field None = []
+maker_field (Some name) = text_field (codes "jobId") name
+
+-- the words for the stages of a job
+abbrev pub stage_word : JobKind → List ℕ
+stage_word stage.Making = codes "making"
+stage_word stage.Running = codes "running"
+stage_word stage.Writing = codes "writing"
+
+-- a job
+abbrev pub job_text : JobLine → List ℕ
+job_text line =
+    codes "{" ++ first_text_field (codes "jobId") line.name ++ text_field (codes "kind") (stage_word line.kind)
+    ++ flag_field (codes "terminated") line.asked ++ number_field (codes "batches") line.batches ++ codes "}"
+
+-- jobs
+abbrev pub jobs_text : List JobLine → List ℕ
+jobs_text lines = codes "\"jobs\":[" ++ items_behind job_text [] lines ++ codes "]"
+
+-- the fields of a reply that isn't a refusal; no call is answered with the beginning of a job, or with its end alone
 abbrev pub ok_fields : PlainReply → List ℕ
 ok_fields (reply.Changed answer) = change_fields answer
-ok_fields (reply.Rows rows) = rows_text rows
-ok_fields (reply.Refused why) = []
+ok_fields (reply.Stored rows) = rows_text (codes "value") rows
+ok_fields (reply.Made line) = graph_fields line ++ maker_field line.job
+ok_fields (reply.Asked name) = first_text_field (codes "jobId") name
+ok_fields (reply.There name found) = first_text_field (codes "graphName") name ++ flag_field (codes "exists") found
+ok_fields (reply.Graphs lines) = graphs_text lines
+ok_fields (reply.Rows rows) = rows_text (codes "propertyValue") rows
+ok_fields (reply.JobLines lines) = jobs_text lines
+ok_fields other = []
 
 -- an accepted call with what it answers
 abbrev pub ok_text : List ℕ → List ℕ
@@ -215,9 +279,8 @@ ok_text fields = codes "{\"ok\":{" ++ fields ++ codes "}}"
 
 -- the text of a reply
 abbrev pub answer_of : PlainReply → List ℕ
-answer_of (reply.Changed answer) = ok_text (ok_fields (reply.Changed answer))
-answer_of (reply.Rows rows) = ok_text (ok_fields (reply.Rows rows))
 answer_of (reply.Refused why) = refusal_text why
+answer_of other = ok_text (ok_fields other)
 
 -- the same as a line
 abbrev pub line_answer : PlainReply → List ℕ

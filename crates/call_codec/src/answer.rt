@@ -3,9 +3,12 @@ ghost use Rattle.std.specs.Prelude.{◌≡◌, [], ◌++◌, OnOk, IfOk};
 ghost use Rattle.std.specs.List.{zip};
 ghost use Rattle.graph_model.specs.declared.change.ChangeReply.TheVariants as answer;
 ghost use Rattle.desk_model.specs.Replies.{plain_reply};
-ghost use Rattle.call_codec.specs.Answers.{change_fields, row_text, rows_behind, rows_text, ok_fields, answer_of};
+ghost use Rattle.call_codec.specs.Answers.{change_fields, items_behind, row_text, rows_text, ok_fields, answer_of};
 
-use crate::fields::{put, put_first_field, put_number_field, put_whole_field};
+use crate::fields::{
+    put, put_first_field, put_first_text_field, put_number_field, put_whole_field,
+};
+use crate::lines::{put_graphs, put_jobs, put_made, put_there};
 use crate::refused::put_refusal;
 use desk_model::Reply;
 use graph_model::{Column, List, Mem};
@@ -42,35 +45,35 @@ fn put_deleted(text: &mut Vec<u8>, nodes: u32, rels: u32) -> Result<(), Mem>
     put_number_field(text, "relationships", u64::from(rels))
 }
 
-// Puts the row of a node.
-fn put_row(text: &mut Vec<u8>, id: u32, value: i64) -> Result<(), Mem>
-    ensures { OnOk result (text.new.items ≡ text.old.items ++ row_text (id, value)) }
+// Puts the row of a node, its value in a field of this name.
+fn put_row(text: &mut Vec<u8>, name: &str, id: u32, value: i64) -> Result<(), Mem>
+    ensures { OnOk result (text.new.items ≡ text.old.items ++ row_text name.now (id, value)) }
 {
     put(text, b"{")?;
     put_first_field(text, "nodeId", u64::from(id))?;
-    put_whole_field(text, "value", value)?;
+    put_whole_field(text, name, value)?;
     put(text, b"}")
 }
 
 // Puts rows with commas between them.
-fn put_rows_between(text: &mut Vec<u8>, ids: &[u32], values: &[i64]) -> Result<(), Mem>
-    ensures { OnOk result (text.new.items ≡ text.old.items ++ rows_behind [] (zip ids.now values.now)) }
+fn put_rows_between(text: &mut Vec<u8>, name: &str, ids: &[u32], values: &[i64]) -> Result<(), Mem>
+    ensures { OnOk result (text.new.items ≡ text.old.items ++ items_behind (row_text name.now) [] (zip ids.now values.now)) }
 {
     let mut before: &[u8] = b"";
     for (id, value) in ids.iter().zip(values) {
         put(text, before)?;
-        put_row(text, *id, *value)?;
+        put_row(text, name, *id, *value)?;
         before = b",";
     }
     Ok(())
 }
 
 // Puts the rows of a column.
-fn put_rows(text: &mut Vec<u8>, column: &Column) -> Result<(), Mem>
-    ensures { OnOk result (text.new.items ≡ text.old.items ++ rows_text (zip column.now.ids column.now.values)) }
+fn put_rows(text: &mut Vec<u8>, name: &str, column: &Column) -> Result<(), Mem>
+    ensures { OnOk result (text.new.items ≡ text.old.items ++ rows_text name.now (zip column.now.ids column.now.values)) }
 {
     put(text, b"\"rows\":[")?;
-    put_rows_between(text, column.ids.as_slice(), column.values.as_slice())?;
+    put_rows_between(text, name, column.ids.as_slice(), column.values.as_slice())?;
     put(text, b"]")
 }
 
@@ -87,8 +90,14 @@ fn put_ok_fields(text: &mut Vec<u8>, reply: &Reply) -> Result<(), Mem>
         } => put_created(text, *first_node, *nodes, *first_rel, *rels),
         Reply::Set { pairs } => put_set(text, *pairs),
         Reply::Deleted { nodes, rels } => put_deleted(text, *nodes, *rels),
-        Reply::Stored(column) => put_rows(text, column),
-        Reply::Refused(_) => Ok(()),
+        Reply::Stored(column) => put_rows(text, "value", column),
+        Reply::Made(line) => put_made(text, line),
+        Reply::Asked { job } => put_first_text_field(text, "jobId", job.bytes()),
+        Reply::There { graph, found } => put_there(text, graph, *found),
+        Reply::Graphs(lines) => put_graphs(text, lines.as_slice()),
+        Reply::Rows(column) => put_rows(text, "propertyValue", column),
+        Reply::JobLines(lines) => put_jobs(text, lines.as_slice()),
+        Reply::Making { .. } | Reply::Ended | Reply::Refused(_) => Ok(()),
     }
 }
 

@@ -1,7 +1,7 @@
 // Putting pieces of JSON behind a text. Names, tags and our own words need no escapes.
 ghost use Rattle.std.specs.Prelude.{◌≡◌, ◌++◌, OnOk, decimal};
 ghost use Rattle.std.specs.Fmt.{signed_decimal};
-ghost use Rattle.call_codec.specs.Answers.{first_field, field_name, number_field, whole_field, text_field};
+ghost use Rattle.call_codec.specs.Answers.{first_field, field_name, number_field, whole_field, text_field, quoted, first_text_field, flag_field};
 
 use graph_model::Mem;
 use itoa::Buffer;
@@ -76,4 +76,38 @@ pub(crate) fn put_text_field(text: &mut Vec<u8>, name: &str, value: &[u8]) -> Re
     put(text, b"\"")?;
     put(text, value)?;
     put(text, b"\"")
+}
+
+/// Puts a text in quotes.
+pub(crate) fn put_quoted(text: &mut Vec<u8>, value: &[u8]) -> Result<(), Mem>
+    ensures { OnOk result (text.new.items ≡ text.old.items ++ quoted value.now) }
+{
+    put(text, b"\"")?;
+    put(text, value)?;
+    put(text, b"\"")
+}
+
+/// Puts the first field of an object, with a text.
+#[tactic(auto, unfolding(crate::specs::Answers::first_text_field))]
+pub(crate) fn put_first_text_field(text: &mut Vec<u8>, name: &str, value: &[u8]) -> Result<(), Mem>
+    ensures { OnOk result (text.new.items ≡ text.old.items ++ first_text_field name.now value.now) }
+{
+    put(text, b"\"")?;
+    put(text, name.as_bytes())?;
+    put(text, b"\":\"")?;
+    put(text, value)?;
+    put(text, b"\"")
+}
+
+/// Puts a further field, true or false.
+#[tactic(auto, unfolding(crate::specs::Answers::flag_field))]
+pub(crate) fn put_flag_field(text: &mut Vec<u8>, name: &str, flag: bool) -> Result<(), Mem>
+    ensures { OnOk result (text.new.items ≡ text.old.items ++ flag_field name.now flag) }
+{
+    put_field_name(text, name)?;
+    if flag {
+        put(text, b"true")
+    } else {
+        put(text, b"false")
+    }
 }

@@ -1,9 +1,10 @@
 // Laws of the definitions, each the contract of a function that does nothing.
-ghost use Rattle.std.specs.Prelude.{◌≡◌, [], ◌∷◌, None, codes, pos, negsuc, true, false};
+ghost use Rattle.std.specs.Prelude.{◌≡◌, [], ◌∷◌, None, Some, codes, pos, negsuc, true, false};
 ghost use Rattle.graph_model.specs.declared.change.Change.TheVariants as change;
 ghost use Rattle.graph_model.specs.declared.change.ChangeReply.TheVariants as answer;
 ghost use Rattle.graph_model.specs.SmallStore.{make_small_store};
 ghost use Rattle.desk_model.specs.declared.call.Call.TheVariants as call;
+ghost use Rattle.desk_model.specs.declared.job.JobKind.TheVariants as stage;
 ghost use Rattle.desk_model.specs.Replies as reply;
 ghost use Rattle.call_codec.specs.Answers.{answer_of, line_answer};
 ghost use Rattle.call_codec.specs.Lines.{Calls, Refuses, line_item, line_items};
@@ -26,8 +27,14 @@ pub fn worked_answers()
     ensures created { line_answer (reply.Changed (answer.Created 0 6 0 6)) ≡ codes "{\"ok\":{\"firstNode\":0,\"nodes\":6,\"firstRelationship\":0,\"relationships\":6}}\n" }
     ensures set { answer_of (reply.Changed (answer.«Set» 2)) ≡ codes "{\"ok\":{\"set\":2}}" }
     ensures deleted { answer_of (reply.Changed (answer.Deleted 1 3)) ≡ codes "{\"ok\":{\"nodes\":1,\"relationships\":3}}" }
-    ensures rows { answer_of (reply.Rows ((0, pos 5) ∷ (2, negsuc 5) ∷ [])) ≡ codes "{\"ok\":{\"rows\":[{\"nodeId\":0,\"value\":5},{\"nodeId\":2,\"value\":-6}]}}" }
-    ensures no_rows { answer_of (reply.Rows []) ≡ codes "{\"ok\":{\"rows\":[]}}" }
+    ensures rows { answer_of (reply.Stored ((0, pos 5) ∷ (2, negsuc 5) ∷ [])) ≡ codes "{\"ok\":{\"rows\":[{\"nodeId\":0,\"value\":5},{\"nodeId\":2,\"value\":-6}]}}" }
+    ensures no_rows { answer_of (reply.Stored []) ≡ codes "{\"ok\":{\"rows\":[]}}" }
+    ensures made { answer_of (reply.Made (record { name = codes "g"; nodes = 6; arcs = 6; version = 1; keys = []; job = Some (codes "job-1") })) ≡ codes "{\"ok\":{\"graphName\":\"g\",\"nodeCount\":6,\"relationshipCount\":6,\"version\":1,\"jobId\":\"job-1\"}}" }
+    ensures asked { answer_of (reply.Asked (codes "job-1")) ≡ codes "{\"ok\":{\"jobId\":\"job-1\"}}" }
+    ensures there { answer_of (reply.There (codes "g") false) ≡ codes "{\"ok\":{\"graphName\":\"g\",\"exists\":false}}" }
+    ensures graphs { answer_of (reply.Graphs (record { name = codes "g"; nodes = 2; arcs = 1; version = 3; keys = codes "a" ∷ codes "b" ∷ []; job = None } ∷ record { name = codes "h"; nodes = 0; arcs = 0; version = 2; keys = []; job = None } ∷ [])) ≡ codes "{\"ok\":{\"graphs\":[{\"graphName\":\"g\",\"nodeCount\":2,\"relationshipCount\":1,\"version\":3,\"nodeProperties\":[\"a\",\"b\"]},{\"graphName\":\"h\",\"nodeCount\":0,\"relationshipCount\":0,\"version\":2,\"nodeProperties\":[]}]}}" }
+    ensures graph_rows { answer_of (reply.Rows ((0, pos 2) ∷ [])) ≡ codes "{\"ok\":{\"rows\":[{\"nodeId\":0,\"propertyValue\":2}]}}" }
+    ensures jobs { answer_of (reply.JobLines (record { name = codes "job-1"; kind = stage.Making; asked = true; batches = 0 } ∷ [])) ≡ codes "{\"ok\":{\"jobs\":[{\"jobId\":\"job-1\",\"kind\":\"making\",\"terminated\":true,\"batches\":0}]}}" }
     ensures bad_json { answer_of (reply.Refused Refusal.BadJson) ≡ codes "{\"refused\":{\"number\":6,\"code\":\"BadJson\"}}" }
     ensures too_long { answer_of (reply.Refused (Refusal.TooLong LongPart.Line 16777216)) ≡ codes "{\"refused\":{\"number\":2,\"code\":\"TooLong\",\"what\":\"line\",\"limit\":16777216}}" }
     ensures argument { answer_of (reply.Refused (Refusal.BadArgument (codes "user") 0)) ≡ codes "{\"refused\":{\"number\":7,\"code\":\"BadArgument\",\"at\":\"user\",\"row\":0}}" }

@@ -17,6 +17,7 @@ mod fields;
 mod form;
 pub mod laws;
 mod line;
+mod lines;
 mod objects;
 mod procedure;
 mod refused;

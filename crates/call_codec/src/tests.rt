@@ -1,6 +1,6 @@
 // What lines ask, a row for each form and each wrong one, and the text of answers.
 use crate::{answer_text, is_blank, line_call};
-use desk_model::{Call, Reply};
+use desk_model::{Call, GraphLine, JobKind, JobLine, Reply};
 use graph_model::{
     Change, Choice, Column, List, Mem, Name, NewNode, NewRel, Place, Prop, Refusal, Tag,
 };
@@ -393,6 +393,61 @@ fn answer_of_rows(rt: HostRuntime) -> Result<(), Fail> {
             alloc,
             Reply::Stored(values),
             r#"{"ok":{"rows":[{"nodeId":0,"value":5},{"nodeId":2,"value":-6}]}}"#
+        )?
+    );
+    Ok(())
+}
+
+// A named graph with a key, as it is told, and the name of the job that made it where that is told.
+fn line(alloc: Global, job: Option<Tag>) -> Result<GraphLine, Fail> {
+    let keys = Vec::from_array(alloc, [Name::read(alloc, b"a")?, Name::read(alloc, b"b")?])?;
+    Ok(GraphLine {
+        name: Tag::read(alloc, b"g")?,
+        nodes: 6,
+        arcs: 12,
+        version: 1,
+        keys: List::from_vec(keys),
+        job,
+    })
+}
+
+#[test]
+fn answers_of_graphs(rt: HostRuntime) -> Result<(), Fail> {
+    let alloc = rt.alloc();
+    let made = line(alloc, Some(Tag::read(alloc, b"job-1")?))?;
+    assert!(rt;
+        is_answer(
+            alloc,
+            Reply::Made(made),
+            r#"{"ok":{"graphName":"g","nodeCount":6,"relationshipCount":12,"version":1,"jobId":"job-1"}}"#
+        )?
+    );
+    let lines = Vec::from_array(alloc, [line(alloc, None)?])?;
+    assert!(rt;
+        is_answer(
+            alloc,
+            Reply::Graphs(List::from_vec(lines)),
+            r#"{"ok":{"graphs":[{"graphName":"g","nodeCount":6,"relationshipCount":12,"version":1,"nodeProperties":["a","b"]}]}}"#
+        )?
+    );
+    Ok(())
+}
+
+#[test]
+fn answer_of_jobs(rt: HostRuntime) -> Result<(), Fail> {
+    let alloc = rt.alloc();
+    let job = JobLine {
+        name: Tag::read(alloc, b"job-1")?,
+        kind: JobKind::Making,
+        asked: false,
+        batches: 0,
+    };
+    let jobs = Reply::JobLines(List::from_vec(Vec::from_array(alloc, [job])?));
+    assert!(rt;
+        is_answer(
+            alloc,
+            jobs,
+            r#"{"ok":{"jobs":[{"jobId":"job-1","kind":"making","terminated":false,"batches":0}]}}"#
         )?
     );
     Ok(())

@@ -1,7 +1,8 @@
-// The words for the small enums of refusals.
+// The words for the small enums of refusals, and for the stages of jobs.
 ghost use Rattle.std.specs.Prelude.{◌≡◌};
-ghost use Rattle.call_codec.specs.Answers.{part_word, side_word, kind_word, quantity_word, counter_word};
+ghost use Rattle.call_codec.specs.Answers.{part_word, side_word, kind_word, quantity_word, counter_word, stage_word};
 
+use desk_model::JobKind;
 use graph_model::{Counter, EntityKind, LongPart, Quantity, Side};
 
 pub(crate) fn part_word(what: LongPart) -> &'static str
@@ -50,5 +51,15 @@ pub(crate) fn counter_word(counter: Counter) -> &'static str
         Counter::Imports => "imports",
         Counter::Jobs => "jobs",
         Counter::Versions => "versions",
+    }
+}
+
+pub(crate) fn stage_word(kind: JobKind) -> &'static str
+    ensures { result.now ≡ stage_word kind }
+{
+    match kind {
+        JobKind::Making => "making",
+        JobKind::Running => "running",
+        JobKind::Writing => "writing",
     }
 }

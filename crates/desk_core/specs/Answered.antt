@@ -7,7 +7,7 @@ use Rattle.graph_model.specs.declared.refusal.Refusal.{Refusal}
 use Rattle.graph_model.specs.declared.refusal.Refusal.TheVariants.{StoreFault, Mem}
 use Rattle.store_keeper.specs.declared.keeper.KeepRefusal.{KeepRefusal}
 use Rattle.store_keeper.specs.declared.keeper.KeepRefusal.TheVariants as keep
-use Rattle.desk_model.specs.Replies.{PlainReply, Changed, Rows, Refused, rows_of}
+use Rattle.desk_model.specs.Replies.{PlainReply, Changed, Stored, Rows, Refused, rows_of}
 
 -- what a change is answered with: what it did, or why it wasn't made
 abbrev pub change_reply : Result ChangeReply Refusal → PlainReply
@@ -16,8 +16,13 @@ change_reply (Err why) = Refused why
 
 -- what rows are answered with, where there is memory for them
 abbrev pub rows_reply : Result Column TheMem → PlainReply
-rows_reply (Ok column) = Rows (rows_of column)
+rows_reply (Ok column) = Stored (rows_of column)
 rows_reply (Err none) = Refused Mem
+
+-- what rows of a named graph are answered with, or why there are none
+abbrev pub told_reply : Result Column Refusal → PlainReply
+told_reply (Ok column) = Rows (rows_of column)
+told_reply (Err why) = Refused why
 
 -- why a change wasn't made: want of memory, a fault of the keeper where the change was allowed, or what it is refused for
 abbrev pub IsCause : Refusal → Option Refusal → Type 0

@@ -8,12 +8,14 @@ ghost use Rattle.desk_model.specs.Replies.{plain_reply};
 ghost use Rattle.desk_model.specs.Step.{IsReady, IsStep, is_fault, mark_of};
 ghost use Rattle.desk_core.specs.Fields.{state_of, KeepsOthers};
 
+use crate::capturing::capture;
 use crate::changing::make_change;
 use crate::importing::import_change;
-use crate::replies::{changed, stored};
-use crate::rows::stored_rows;
+use crate::replies::{changed, stored, told};
+use crate::rows::{projected_rows, stored_rows};
 use desk_model::{Asked, Event, Reply};
-use graph_model::{Change, Choice, Name, Tag};
+use graph_making::MakeSpec;
+use graph_model::{Change, Choice, Name, Refusal, Tag};
 use graph_store::Store;
 use std::alloc::Global;
 use std::marker::Model;
@@ -98,6 +100,19 @@ impl<K: Keeper> Desk<K> {
         match event {
             Event::Change { import, change } => self.change(alloc, &user, &import, &change),
             Event::StoreRows { key, labels } => self.store_rows(alloc, &key, &labels),
+            Event::ProjectBegin { graph, job, spec } => {
+                self.project_begin(alloc, &user, graph, job, &spec)
+            }
+            Event::ProjectEnd { job, built } => self.users.end_making(alloc, &user, job, built),
+            Event::Abandon { job } => self.users.abandon(alloc, &user, job),
+            Event::Terminate { job } => self.users.terminate(alloc, &user, job),
+            Event::Exists { graph } => self.users.exists(alloc, &user, graph),
+            Event::List { graph } => self.users.list(alloc, &user, &graph),
+            Event::Drop { graph, must } => self.users.drop_graph(alloc, &user, graph, must),
+            Event::GraphRows { graph, key, labels } => {
+                self.graph_rows(alloc, &user, graph, key, labels)
+            }
+            Event::Jobs => self.users.jobs(alloc, &user),
         }
     }
 
@@ -129,5 +144,38 @@ impl<K: Keeper> Desk<K> {
         ensures told { IsTold (K.graph self.now.keeper) self.now.graph }
     {
         stored(stored_rows(alloc, &self.store, key, labels))
+    }
+
+    // A job begins that makes a graph, with the store's graph as it is now where that is projected.
+    fn project_begin(
+        &mut self,
+        alloc: Global,
+        user: &Tag,
+        graph: Tag,
+        name: Option<Tag>,
+        spec: &MakeSpec,
+    ) -> Reply
+        ensures step { IsStep (Event.ProjectBegin graph name spec.now) (part_of (state_of self.old) user.now) (plain_reply result) (part_of (state_of self.new) user.now) }
+        ensures others { KeepsOthers user.now self.old self.new }
+        ensures told { IsTold (K.graph self.new.keeper) self.new.graph }
+        ensures keeper { self.new.keeper ≡ self.old.keeper }
+    {
+        match capture(alloc, &self.store, spec) {
+            Ok(captured) => self
+                .users
+                .begin_making(alloc, user, graph, name, captured, spec),
+            Err(_mem) => Reply::Refused(Refusal::Mem),
+        }
+    }
+
+    // Rows of a named graph.
+    fn graph_rows(&self, alloc: Global, user: &Tag, graph: Tag, key: Name, labels: Choice) -> Reply
+        ensures step { IsStep (Event.GraphRows graph key labels) (part_of (state_of self.now) user.now) (plain_reply result) (part_of (state_of self.now) user.now) }
+        ensures told { IsTold (K.graph self.now.keeper) self.now.graph }
+    {
+        match self.users.graph(user, &graph) {
+            Some(entry) => told(projected_rows(alloc, entry.graph.get(), key, &labels)),
+            None => Reply::Refused(Refusal::NoSuchGraph { graph_name: graph }),
+        }
     }
 }

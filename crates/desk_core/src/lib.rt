@@ -5,6 +5,7 @@
 //! is touched. The lists of one user are `user_lists`', the graph is the store's.
 #![tactic(auto)]
 
+mod capturing;
 mod changing;
 mod desk;
 mod importing;
@@ -14,4 +15,5 @@ mod rows;
 mod tests;
 
 pub use desk::Desk;
-pub use desk_model::{Asked, Call, Event, Reply};
+pub use desk_model::{Asked, Call, Event, GraphLine, JobKind, JobLine, Reply};
+pub use graph_making::{Built, Captured, MakeSpec};

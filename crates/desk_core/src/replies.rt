@@ -1,7 +1,7 @@
 // Replies of what became of an event.
 ghost use Rattle.std.specs.Prelude.{◌≡◌, Ok, Err, Result};
-ghost use Rattle.desk_model.specs.Replies.{plain_reply, rows_of, Rows, Refused};
-ghost use Rattle.desk_core.specs.Answered.{change_reply, keep_refusal, rows_reply};
+ghost use Rattle.desk_model.specs.Replies.{plain_reply, rows_of, Stored, Refused};
+ghost use Rattle.desk_core.specs.Answered.{change_reply, keep_refusal, rows_reply, told_reply};
 
 use desk_model::Reply;
 use graph_model::{ChangeReply, Column, Mem, Refusal};
@@ -38,6 +38,16 @@ pub(crate) fn stored(made: Result<Column, Mem>) -> Reply
     match made {
         Ok(column) => Reply::Stored(column),
         Err(Mem) => Reply::Refused(Refusal::Mem),
+    }
+}
+
+/// The reply of rows of a named graph.
+pub(crate) fn told(made: Result<Column, Refusal>) -> Reply
+    ensures { plain_reply result ≡ told_reply made }
+{
+    match made {
+        Ok(column) => Reply::Rows(column),
+        Err(why) => Reply::Refused(why),
     }
 }
 

@@ -1,13 +1,23 @@
-// Rows of the store.
-ghost use Rattle.std.specs.Prelude.{◌≡◌, IfOk, option_copied, Some};
-ghost use Rattle.graph_model.specs.Projection.{is_among};
+// Rows of the store, and of a named graph.
+ghost use Rattle.std.specs.Prelude.{◌≡◌, length, IfOk, IfErr, OnOk, option_copied, None, Some};
+ghost use Rattle.std.specs.Option.{option_map};
 ghost use Rattle.std.specs.List.{list_any};
+ghost use Rattle.std.specs.List.Sorted.{IsStrictlyIncreasing};
+ghost use Rattle.graph_model.specs.Projection.{is_among};
+ghost use Rattle.graph_model.specs.declared.refusal.Refusal.TheVariants.{NoSuchLabel};
+ghost use Rattle.graph_model.specs.Refusals.{UnlessMem};
+ghost use Rattle.graph_model.specs.View.{unknown_choice};
+ghost use Rattle.csr_columns.specs.Rows.{names_of};
+ghost use Rattle.csr_columns.specs.Choosing.{kept_flags};
+ghost use Rattle.csr_columns.specs.Plain.{plain};
 ghost use Rattle.desk_model.specs.Step.{stored_value, chooses, chosen_row, stored_rows};
+ghost use Rattle.desk_model.specs.Graphs.{refused_under, rows_under};
 ghost use Rattle.desk_model.specs.Replies.{rows_of};
-ghost use Rattle.desk_core.specs.Rows.{value_of_row, row_at};
+ghost use Rattle.desk_core.specs.Rows.{value_of_row, row_at, kept_below};
 
+use csr_columns::Projection;
 use graph_model::laws::elements_come_by_id;
-use graph_model::{Choice, Column, Mem, Name, Node, Prop};
+use graph_model::{Choice, Column, Mem, Name, Node, Prop, Refusal, TryClone};
 use graph_store::Store;
 use std::alloc::Global;
 
@@ -78,6 +88,78 @@ pub(crate) fn stored_rows(
     for id in 0..store.next_node() {
         if let Some(value) = chosen_value(store, id, key, labels) {
             column = column.with_row(id, value)?;
+        }
+    }
+    Ok(column)
+}
+
+/// The rows of the chosen nodes of a projection under a key, by ascending id.
+///
+/// # Errors
+/// `NoSuchLabel` exactly where a chosen label isn't projected, for the first one, then `NoSuchProperty` exactly where there
+/// is no such key, or `Mem`.
+pub(crate) fn projected_rows(
+    alloc: Global,
+    graph: &Projection,
+    key: Name,
+    labels: &Choice,
+) -> Result<Column, Refusal>
+    ensures ok { IfOk result (λ column. rows_of column ≡ rows_under key labels.now (plain graph.now)) }
+    ensures allowed { OnOk result (refused_under key labels.now (plain graph.now) ≡ None) }
+    ensures refused { IfErr result (λ why. UnlessMem why (refused_under key labels.now (plain graph.now) ≡ Some why)) }
+{
+    match labels_known(graph, labels) {
+        Ok(()) => {}
+        Err(why) => return Err(why),
+    }
+    let Some(values) = graph.values(&key) else {
+        return Err(Refusal::NoSuchProperty { key });
+    };
+    Ok(chosen_rows(alloc, graph, values, labels)?)
+}
+
+// The rows of the chosen nodes, with these values.
+fn chosen_rows(
+    alloc: Global,
+    graph: &Projection,
+    values: &[i64],
+    labels: &Choice,
+) -> Result<Column, Mem>
+    requires { length values.now ≡ length graph.now.ids }
+    ensures { IfOk result (λ column. rows_of column ≡ kept_below graph.now.ids (kept_flags labels.now graph.now.labels (length graph.now.ids)) values.now (length graph.now.ids)) }
+{
+    let kept = graph.kept_flags(alloc, labels)?;
+    kept_rows(alloc, graph.ids(), kept.as_slice(), values)
+}
+
+// Whether all chosen labels are projected.
+fn labels_known(graph: &Projection, labels: &Choice) -> Result<(), Refusal>
+    ensures ok { OnOk result (unknown_choice (names_of graph.now.labels) labels.now ≡ None) }
+    ensures refused { IfErr result (λ why. UnlessMem why (option_map NoSuchLabel (unknown_choice (names_of graph.now.labels) labels.now) ≡ Some why)) }
+{
+    if let Choice::Of(names) = labels {
+        for name in names.as_slice() {
+            if !is_named(graph.labels(), name) {
+                return Err(Refusal::NoSuchLabel {
+                    label: name.try_clone()?,
+                });
+            }
+        }
+    }
+    Ok(())
+}
+
+// The rows of the ids that are kept.
+fn kept_rows(alloc: Global, ids: &[u32], kept: &[bool], values: &[i64]) -> Result<Column, Mem>
+    requires ascend { IsStrictlyIncreasing ids.now }
+    requires flags { length kept.now ≡ length ids.now }
+    requires values { length values.now ≡ length ids.now }
+    ensures { IfOk result (λ column. rows_of column ≡ kept_below ids.now kept.now values.now (length ids.now)) }
+{
+    let mut column = Column::new(alloc);
+    for v in 0..ids.len() {
+        if kept[v] {
+            column = column.with_row(ids[v], values[v])?;
         }
     }
     Ok(column)

@@ -1,6 +1,5 @@
 -- The state of the machine: one graph, and lists of each user.
---   NamedGraph              a named graph of a user
---   Capture                 what a job works on, as it was when the job began
+--   NamedGraph              a graph of a user, which stands under a name
 --   JobSpec                 what a job was asked for
 --   Job                     a job of a user
 --   UserLists               what is kept for a user
@@ -14,31 +13,26 @@ use Rattle.std.specs.Str.{bytes_eq}
 use Rattle.graph_model.specs.declared.graph.PropertyGraph.{PropertyGraph}
 use Rattle.graph_model.specs.declared.change.ChangeReply.{ChangeReply}
 use Rattle.graph_model.specs.Projection.{PlainProjection}
-use Rattle.projection_spec.specs.Fields.{SpecFields}
+use Rattle.graph_making.specs.declared.capture.Captured.{Captured}
+use Rattle.graph_making.specs.declared.capture.MakeSpec.{MakeSpec}
 use Rattle.desk_model.specs.declared.job.JobKind.{JobKind}
 
--- a named graph: its name, its version and its projection
+-- a graph that stands under a name: its version and its projection
 pub record NamedGraph : Type 0 where
-  pub name : List ℕ
   pub version : ℕ
   pub graph : PlainProjection
 
--- what a job works on, as it was when the job began: the store's graph, or a named graph with the version that it had
-pub data Capture : Type 0 where
-  OfStore : PropertyGraph → Capture
-  OfGraph : ℕ → PlainProjection → Capture
-
--- what a job was asked for: to project these entries. Each kind of work that jobs do has a variant.
+-- what a job was asked for: to make a graph of this name. Each kind of work that jobs do has a variant.
 pub data JobSpec : Type 0 where
-  Native : SpecFields → JobSpec
+  Make : List ℕ → MakeSpec → JobSpec
 
--- a job: its number, its name, its stage, what it captured and what it was asked for; whether it was asked to end, how many
--- batches it has done and how many values they set, and the rows that it writes: none but while it is writing
+-- a job: its number, its name, its stage, what it captured when it began and what it was asked for; whether it was asked to
+-- end, how many batches it has done and how many values they set, and the rows that it writes: none but while it is writing
 pub record Job : Type 0 where
   pub number : ℕ
   pub name : List ℕ
   pub kind : JobKind
-  pub captured : Capture
+  pub captured : Captured
   pub spec : JobSpec
   pub asked : Bool
   pub batches : ℕ
@@ -48,7 +42,7 @@ pub record Job : Type 0 where
 -- what is kept for a user: named graphs by ascending name, jobs by ascending number, the answers of imports by ascending
 -- id, the number of the last job and the version of the last graph
 pub record UserLists : Type 0 where
-  pub graphs : List NamedGraph
+  pub graphs : List (List ℕ × NamedGraph)
   pub jobs : List Job
   pub imports : List (List ℕ × ChangeReply)
   pub last_job : ℕ

@@ -12,14 +12,14 @@
 --   IsWellFormed event        what must hold of an event alone
 --   IsReady event part        what must hold of an event in a state
 --   IsStep event old r new    one part, a reply and another part are a step, with the mark that the reply shows
-use Rattle.std.specs.Prelude.{◌≡◌, ℕ, ℤ, nat_lt, Bool, true, false, not, if◌then◌else◌, IsTrue, List, [], ◌∷◌, length, Option, Some, None}
+use Rattle.std.specs.Prelude.{◌≡◌, ℕ, ℤ, nat_lt, ◌==◌, Bool, true, false, not, if◌then◌else◌, IsTrue, List, [], ◌∷◌, length, codes, Option, Some, None, IsSome, Result, Ok, Err}
 use Rattle.std.specs.Str.{bytes_eq}
 use Rattle.std.specs.Ordering.{nat_cmp}
 use Rattle.std.specs.Cmp.Lexicographic.{slice_cmp}
 use Rattle.std.specs.declared.cmp.Ordering.{Ordering}
 use Rattle.std.specs.declared.cmp.Ordering.TheVariants.{Less, Equal, Greater}
-use Rattle.std.specs.Option.{option_map, is_some}
-use Rattle.std.specs.List.{list_any, filter_map}
+use Rattle.std.specs.Option.{option_map, option_and_then, is_some}
+use Rattle.std.specs.List.{list_any, filter_map, starts_with}
 use Rattle.graph_model.specs.declared.graph.Node.{Node}
 use Rattle.graph_model.specs.declared.graph.Prop.{Prop}
 use Rattle.graph_model.specs.declared.graph.PropertyGraph.{PropertyGraph}
@@ -32,11 +32,22 @@ use Rattle.graph_model.specs.declared.refusal.Refusal.TheVariants.{CounterSpent,
 use Rattle.graph_model.specs.declared.refusal.Counter.TheVariants.{Imports}
 use Rattle.graph_model.specs.Change.{after_change, refused_change, change_answer, IsWellFormedChange}
 use Rattle.graph_model.specs.Lists.{first_there}
-use Rattle.graph_model.specs.Projection.{is_among, under}
+use Rattle.graph_model.specs.Projection.{PlainProjection, is_among, under}
+use Rattle.user_catalog.specs.Catalog.{name_taken, graphs_spent}
+use Rattle.graph_making.specs.declared.capture.Captured.{Captured}
+use Rattle.graph_making.specs.declared.capture.Captured.TheVariants.{Store}
+use Rattle.graph_making.specs.declared.capture.MakeSpec.{MakeSpec}
+use Rattle.graph_making.specs.declared.capture.MakeSpec.TheVariants.{Native}
+use Rattle.graph_making.specs.Making.{BuiltFields}
+use Rattle.desk_model.specs.declared.job.JobKind.TheVariants as kind
 use Rattle.desk_model.specs.declared.asked.Event.{Event}
-use Rattle.desk_model.specs.declared.asked.Event.TheVariants.{Change, StoreRows}
-use Rattle.desk_model.specs.State.{UserLists, Part}
-use Rattle.desk_model.specs.Replies.{PlainReply, Changed, Rows, Refused}
+use Rattle.desk_model.specs.declared.asked.Event.TheVariants as event
+use Rattle.desk_model.specs.declared.asked.Event.TheVariants.{Change, StoreRows, ProjectBegin, ProjectEnd, Abandon, Terminate, Exists, GraphRows, Jobs}
+use Rattle.desk_model.specs.State.{Make, Job, UserLists, Part}
+use Rattle.desk_model.specs.Jobs.{job_of, refused_job, next_job, with_job, without_job, with_asked, unknown_job, is_asked, graph_name, comes_of, refused_making, job_lines}
+use Rattle.desk_model.specs.Graphs.{graph_line, chosen_lines, found_lines, next_graph, with_graph, without_graph, has_graph, refused_drop, refused_rows, graph_rows}
+use Rattle.desk_model.specs.Replies as reply
+use Rattle.desk_model.specs.Replies.{PlainReply, Changed, Refused}
 
 -- what befell an event
 pub data Mark : Type 0 where
@@ -122,47 +133,120 @@ chosen_row key labels node = if chooses labels node then row_of key node else No
 abbrev pub stored_rows : List ℕ → Choice → PropertyGraph → List (ℕ × ℤ)
 stored_rows key labels g = filter_map (chosen_row key labels) g.nodes
 
+-- ---- jobs that make graphs
+
+-- a part with other lists
+abbrev pub with_lists : Part → UserLists → Part
+with_lists part lists = record part { lists = lists }
+
+-- what is captured for a job that makes a graph: entries project the store's graph as it is now
+abbrev pub captured_for : MakeSpec → Part → Captured
+captured_for (Native spec) part = Store part.graph
+
+-- why no job begins that makes a graph of this name: there is one, or no room for one, or no job can begin
+abbrev pub refused_begin : List ℕ → Option (List ℕ) → UserLists → Option Refusal
+refused_begin graph name lists =
+    first_there (name_taken graph (under graph lists.graphs)) (first_there (graphs_spent (length lists.graphs)) (refused_job name lists))
+
+-- a job begins
+abbrev pub begun : Job → Part → Outcome
+begun job part = record { reply = reply.Making job.number job.name job.captured; part = with_lists part (with_job job part.lists) }
+
+-- the job of a number ends with the graph that it makes, which stands under the job's graph name and the next version, or with
+-- the refusal
+abbrev pub ended_with : Result PlainProjection Refusal → ℕ → Job → Part → Outcome
+ended_with (Ok graph) number job part = record {
+  reply = reply.Made (graph_line (Some job.name) (graph_name job.spec) (next_graph graph part.lists));
+  part = with_lists part (without_job number (with_graph (graph_name job.spec) graph part.lists));
+}
+ended_with (Err why) number job part = record { reply = Refused why; part = with_lists part (without_job number part.lists) }
+
+-- the job of a number ends with what comes of it; where an event is ready there is that job
+abbrev pub made_by : ℕ → Option Job → Part → Outcome
+made_by number None part = record { reply = reply.Ended; part = with_lists part (without_job number part.lists) }
+made_by number (Some job) part = ended_with (comes_of job) number job part
+
+-- a built graph is of a job: what it was made of is what the job captured, and what was asked for the same
+pub record IsBuiltFor (built : BuiltFields) (job : Job) : Type 0 where
+  pub kind : job.kind ≡ kind.Making
+  pub captured : job.captured ≡ built.from
+  pub spec : job.spec ≡ Make (graph_name job.spec) built.spec
+
+-- there is the job that a built graph is of
+abbrev pub IsBuiltForSome : BuiltFields → Option Job → Type 0
+IsBuiltForSome built None = ⊥
+IsBuiltForSome built (Some job) = IsBuiltFor built job
+
+-- a name that is given to a job doesn't look like one that the machine gives
+abbrev pub IsGivenName : Option (List ℕ) → Type 0
+IsGivenName None = Unit {0}
+IsGivenName (Some name) = starts_with ◌==◌ name (codes "job-") ≡ false
+
 -- ---- the table, event by event
 
 -- why an event is refused but for want of memory and a fault of the keeper: the first cause in order
 abbrev pub refusal_of : Event → Part → Option Refusal
 refusal_of (Change import change) part = refusal_unless_kept (kept_answer import part.lists) import change part
 refusal_of (StoreRows key labels) part = None
+refusal_of (ProjectBegin graph name spec) part = refused_begin graph name part.lists
+refusal_of (ProjectEnd number built) part = option_and_then (refused_making part.lists) (job_of number part.lists)
+refusal_of (Abandon number) part = None
+refusal_of (Terminate name) part = unknown_job name part.lists
+refusal_of (Exists graph) part = None
+refusal_of (event.List graph) part = None
+refusal_of (event.Drop graph must) part = refused_drop graph must part.lists
+refusal_of (GraphRows graph key labels) part = refused_rows graph key labels (under graph part.lists.graphs)
+refusal_of Jobs part = None
 
 -- what an event does that isn't refused
 abbrev pub accepted : Event → Part → Outcome
 accepted (Change import change) part = unless_kept (kept_answer import part.lists) import change part
-accepted (StoreRows key labels) part = record { reply = Rows (stored_rows key labels part.graph); part = part }
+accepted (StoreRows key labels) part = record { reply = reply.Stored (stored_rows key labels part.graph); part = part }
+accepted (ProjectBegin graph name spec) part = begun (next_job name (captured_for spec part) (Make graph spec) part.lists) part
+accepted (ProjectEnd number built) part = made_by number (job_of number part.lists) part
+accepted (Abandon number) part = record { reply = reply.Ended; part = with_lists part (without_job number part.lists) }
+accepted (Terminate name) part = record { reply = reply.Asked name; part = with_lists part (with_asked name part.lists) }
+accepted (Exists graph) part = record { reply = reply.There graph (has_graph graph part.lists); part = part }
+accepted (event.List graph) part = record { reply = reply.Graphs (chosen_lines graph part.lists); part = part }
+accepted (event.Drop graph must) part =
+    record { reply = reply.Graphs (found_lines graph (under graph part.lists.graphs)); part = with_lists part (without_graph graph part.lists) }
+accepted (GraphRows graph key labels) part =
+    record { reply = reply.Rows (graph_rows key labels (under graph part.lists.graphs)); part = part }
+accepted Jobs part = record { reply = reply.JobLines (job_lines part.lists); part = part }
 
 -- whether an event that isn't refused hands a change to the keeper
 abbrev pub commits : Event → Part → Bool
 commits (Change import change) part = not (is_some (kept_answer import part.lists))
-commits (StoreRows key labels) part = false
+commits other part = false
 
--- whether want of memory may be answered
+-- whether want of memory may be answered: neither where a job ends for nothing or is asked to end, nor where an asked job ends
 abbrev pub may_want_memory : Event → Part → Bool
-may_want_memory (Change import change) part = true
-may_want_memory (StoreRows key labels) part = true
+may_want_memory (ProjectEnd number built) part = not (is_asked number part.lists)
+may_want_memory (Abandon number) part = false
+may_want_memory (Terminate name) part = false
+may_want_memory other part = true
 
 -- the batches that the event's job has done
 abbrev pub batches_of : Event → Part → ℕ
-batches_of (Change import change) part = 0
-batches_of (StoreRows key labels) part = 0
+batches_of other part = 0
 
--- what a refused event leaves
+-- what a refused event leaves: all as it was, but a job ends whose end is refused
 abbrev pub refused_part : Event → Part → Part
-refused_part (Change import change) part = part
-refused_part (StoreRows key labels) part = part
+refused_part (ProjectEnd number built) part = with_lists part (without_job number part.lists)
+refused_part other part = part
 
 -- what must hold of an event alone
 abbrev pub IsWellFormed : Event → Type 0
 IsWellFormed (Change import change) = IsWellFormedChange change
-IsWellFormed (StoreRows key labels) = Unit {0}
+IsWellFormed (ProjectBegin graph name spec) = IsGivenName name
+IsWellFormed other = Unit {0}
 
--- what must hold of an event in a state
+-- what must hold of an event in a state: it is well formed, and a job that it names is there and in the needed stage, with a
+-- graph that was made of what the job captured
 abbrev pub IsReady : Event → Part → Type 0
-IsReady (Change import change) part = IsWellFormed (Change import change)
-IsReady (StoreRows key labels) part = IsWellFormed (StoreRows key labels)
+IsReady (ProjectEnd number built) part = IsBuiltForSome built (job_of number part.lists)
+IsReady (Abandon number) part = IsSome (job_of number part.lists)
+IsReady other part = IsWellFormed other
 
 -- ---- one step
 
@@ -191,9 +275,8 @@ mark_of_refusal why = Plain
 
 -- the mark that a reply shows
 abbrev pub mark_of : PlainReply → Mark
-mark_of (Changed answer) = Plain
-mark_of (Rows rows) = Plain
 mark_of (Refused why) = mark_of_refusal why
+mark_of other = Plain
 
 -- whether a mark is a fault
 abbrev pub is_fault : Mark → Bool

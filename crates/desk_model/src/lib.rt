@@ -11,7 +11,9 @@ mod asked;
 mod call;
 mod job;
 pub mod laws;
+mod lines;
 
 pub use asked::{Asked, Event, Reply};
 pub use call::Call;
 pub use job::JobKind;
+pub use lines::{GraphLine, JobLine};

@@ -25,7 +25,7 @@ use Rattle.desk_model.specs.declared.call.Call.{Call}
 use Rattle.desk_model.specs.declared.call.Call.TheVariants as call
 use Rattle.desk_model.specs.State.{State, Part, UserLists, part_of, with_part, lists_with}
 use Rattle.desk_model.specs.Replies.{PlainReply, Refused}
-use Rattle.desk_model.specs.Step.{IsStep, IsReady, step, mark_of, is_fault}
+use Rattle.desk_model.specs.Step.{IsStep, step, mark_of, is_fault}
 use Rattle.desk_model.specs.History.{HistoryEntry, AreLegal, IsLegalEntry, Permits, own_entries, state_after, state_after_entry}
 use Rattle.desk_model.specs.Script.{IsScript, IsFormedCall}
 use Rattle.call_codec.specs.Answers.{line_answer}
@@ -189,9 +189,10 @@ halts_one why item reply a b f g s t p took = record {
 abbrev pub shell_entry : List ℕ → Event → PlainReply → HistoryEntry
 shell_entry user asked reply = record { pass = 0; user = user; event = asked; refused = is_fault (mark_of reply); reply = reply }
 
-permits : (own : List HistoryEntry) (user : List ℕ) (asked : Event) (part : Part) → IsReady asked part → Permits own user asked
-permits own user (event.Change import change) part ready = ready
-permits own user (event.StoreRows key labels) part ready = ready
+permits : (own : List HistoryEntry) (user : List ℕ) (asked : Call) → IsFormedCall asked → Permits own user (event_for asked)
+permits own user (call.Create import change) formed = formed
+permits own user (call.Alter change) formed = formed
+permits own user (call.StoreRows key labels) formed = formed
 
 same_state : (s t : State) → s.graph ≡ t.graph → s.lists ≡ t.lists → s ≡ t
 same_state s t graphs lists =
@@ -219,11 +220,11 @@ counts_one entry f g rose later =
     (cases_Bool entry.refused)
 
 -- what the desk answers leads on by one entry
-pub applied : (user : List ℕ) (asked : Event) (reply : PlainReply) (a b : State) (f g : ℕ) → IsReady asked (part_of a user) → IsStep asked (part_of a user) reply (part_of b user) → ((other : List ℕ) → other ≢ user → b.lists other ≡ a.lists other) → (IsTrue (is_fault (mark_of reply)) → Rose f g) → f ≤ g → Leads (shell_entry user asked reply ∷ []) a b f g
-applied user asked reply a b f g ready is others rose later = record {
+pub applied : (user : List ℕ) (asked : Event) (reply : PlainReply) (a b : State) (f g : ℕ) → ((own : List HistoryEntry) → Permits own user asked) → IsStep asked (part_of a user) reply (part_of b user) → ((other : List ℕ) → other ≢ user → b.lists other ≡ a.lists other) → (IsTrue (is_fault (mark_of reply)) → Rose f g) → f ≤ g → Leads (shell_entry user asked reply ∷ []) a b f g
+applied user asked reply a b f g permitted is others rose later = record {
   legal = λ earlier. (
     record {
-      permitted = permits (own_entries 0 earlier) user asked (part_of a user) ready;
+      permitted = permitted (own_entries 0 earlier);
       mark = is.mark;
       reply = is.answer;
       flag = refl;
@@ -298,11 +299,6 @@ line_asks line within dark =
 
 -- ---- what the desk did
 
-ready : (asked : Call) (part : Part) → IsFormedCall asked → IsReady (event_for asked) part
-ready (call.Create import change) part formed = formed
-ready (call.Alter change) part formed = formed
-ready (call.StoreRows key labels) part formed = formed
-
 pub performs_call : (item : Item) (user : List ℕ) (asked : Call) (performed : Event) (reply : PlainReply) (a b : State) (f g : ℕ) → item ≡ Calls user asked → performed ≡ event_for asked → IsFormedCall asked → IsStep performed (part_of a user) reply (part_of b user) → ((other : List ℕ) → other ≢ user → b.lists other ≡ a.lists other) → (IsTrue (is_fault (mark_of reply)) → Rose f g) → f ≤ g → Performs item reply a b f g
 performs_call item user asked performed reply a b f g item_is event_is formed is others rose later =
     let P : Event → Type 0 = λ e. IsStep e (part_of a user) reply (part_of b user) in
@@ -310,7 +306,7 @@ performs_call item user asked performed reply a b f g item_is event_is formed is
     record {
       entries = shell_entry user (event_for asked) reply ∷ [];
       answered = rw item_is (is_script user asked reply);
-      leads = applied user (event_for asked) reply a b f g (ready asked (part_of a user) formed) stepped others rose later;
+      leads = applied user (event_for asked) reply a b f g (λ own. permits own user asked formed) stepped others rose later;
     }
 
 -- ---- what a sink took

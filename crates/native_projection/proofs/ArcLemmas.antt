@@ -81,7 +81,7 @@ type-count ids type =
     ∙ length-enumerate_from 0 (row_arcs type.arcs.rows)
     ∙ length-arcs_of type.arcs.rows
 
-types-count : (ids : List ℕ) (types : List TypeColumns) → sum_by type_arc_count (map (plain_type ids) types) ≡ arcs_in types
+pub types-count : (ids : List ℕ) (types : List TypeColumns) → sum_by type_arc_count (map (plain_type ids) types) ≡ arcs_in types
 types-count ids [] = refl
 types-count ids (type ∷ types) =
     sum_by-cons type_arc_count (plain_type ids type) (map (plain_type ids) types)

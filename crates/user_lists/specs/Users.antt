@@ -1,7 +1,10 @@
 -- The lists of all users.
 use Rattle.std.specs.Prelude.{◌≡◌, ◌≢◌, ℕ, List, unwrap_or}
 use Rattle.graph_model.specs.Projection.{under}
+use Rattle.desk_model.specs.declared.asked.Event.{Event}
+use Rattle.desk_model.specs.Replies.{PlainReply}
 use Rattle.desk_model.specs.State.{UserLists, no_lists}
+use Rattle.user_lists.specs.Steps.{IsListStep}
 
 -- the lists of a user; a user who isn't there has empty ones
 abbrev pub lists_of : List (List ℕ × UserLists) → List ℕ → UserLists
@@ -10,3 +13,7 @@ lists_of users user = unwrap_or (under user users) no_lists
 -- all other users have the lists that they had
 abbrev pub OthersStay : List ℕ → List (List ℕ × UserLists) → List (List ℕ × UserLists) → Type 0
 OthersStay user before after = (other : List ℕ) → other ≢ user → lists_of after other ≡ lists_of before other
+
+-- whatever the graph is, the lists of a user before, a reply and the lists after are a step
+abbrev pub IsUserStep : Event → List ℕ → List (List ℕ × UserLists) → PlainReply → List (List ℕ × UserLists) → Type 0
+IsUserStep event user before reply after = IsListStep event (lists_of before user) reply (lists_of after user)

@@ -5,23 +5,30 @@ ghost use Rattle.desk_model.specs.State.{no_lists};
 ghost use Rattle.desk_model.specs.Step.{with_answer};
 ghost use Rattle.user_lists.specs.Imports.{lists_without_answer};
 
+use crate::job::Job;
 use graph_model::{ChangeReply, Mem, Tag, TryClone};
 use std::alloc::Global;
 use std::collections::BTreeMap;
 use std::marker::Model;
+use user_catalog::Catalog;
 
-/// What is kept for a user: today the answers of imports, by their ids.
+/// What is kept for a user: named graphs, jobs by ascending number, the answers of imports by their ids, and the number of
+/// the last job. The last version is the catalog's.
 #[derive(Drop)]
 pub struct UserLists {
+    pub(crate) graphs: Catalog,
+    pub(crate) jobs: Vec<Job>,
     imports: BTreeMap<Tag, ChangeReply>,
+    pub(crate) last_job: u32,
 }
 
 impl Model for UserLists {
-    ghost use Rattle.desk_model.specs.State.{UserLists, no_lists};
+    ghost use Rattle.desk_model.specs.State.{UserLists};
+    ghost use Rattle.user_lists.specs.Lists.{shown};
 
     ghost Value = { UserLists };
 
-    ghost view = { λ lists. record no_lists { imports = lists.imports.entries } };
+    ghost view = { λ lists. shown lists.graphs lists.jobs.items lists.imports.entries lists.last_job };
 }
 
 impl UserLists {
@@ -30,7 +37,10 @@ impl UserLists {
         ensures { result ≡ no_lists }
     {
         UserLists {
+            graphs: Catalog::new(alloc),
+            jobs: Vec::new(alloc),
             imports: BTreeMap::new(alloc),
+            last_job: 0,
         }
     }
 

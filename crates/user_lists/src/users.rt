@@ -1,6 +1,8 @@
 // The lists of all users.
 ghost use Rattle.std.specs.Prelude.{◌≡◌, ◌≢◌, ℕ, List, [], IsSome, IfNone, OnOk, option_copied};
+ghost use Rattle.std.specs.Option.{option_map};
 ghost use Rattle.graph_model.specs.Projection.{under};
+ghost use Rattle.user_lists.specs.Lists.{named};
 ghost use Rattle.user_lists.specs.Users.{lists_of, OthersStay};
 
 use crate::lists::UserLists;
@@ -9,6 +11,7 @@ use std::alloc::Global;
 use std::collections::BTreeMap;
 use std::marker::Model;
 use std::mem;
+use user_catalog::Entry;
 
 /// The lists of each user for whom something was kept. Contracts see them by user; a user who isn't there has empty lists.
 #[derive(Drop)]
@@ -40,6 +43,16 @@ impl Users {
         ensures { option_copied result ≡ under user.now self.now }
     {
         self.lists.get(user)
+    }
+
+    /// The graph of a user under a name, `None` exactly where there is none.
+    pub fn graph(&self, user: &Tag, name: &Tag) -> Option<&Entry>
+        ensures { under name.now (lists_of self.now user.now).graphs ≡ option_map named (option_copied result) }
+    {
+        match self.get(user) {
+            Some(lists) => lists.graph(name),
+            None => None,
+        }
     }
 
     /// Makes lists for a user who has none.

@@ -1,6 +1,6 @@
 use Rattle.std.proofs.Common.{refl}
 use Rattle.std.specs.Fmt.{digits}
-use Rattle.call_codec.specs.Answers.{field_name, first_field, number_field, whole_field, text_field, refusal_body}
+use Rattle.call_codec.specs.Answers.{field_name, first_field, number_field, whole_field, text_field, refusal_body, first_text_field, flag_field}
 use Rattle.call_codec.proofs.laws.worked_answers.Goals as goal
 
 pub returns-clause-created : goal.returns-clause-created
@@ -66,3 +66,27 @@ returns-clause-fault c = refl
 pub returns-clause-memory : goal.returns-clause-memory
 unfolding digits field_name first_field number_field whole_field text_field refusal_body
 returns-clause-memory c = refl
+
+pub returns-clause-made : goal.returns-clause-made
+unfolding digits field_name first_field number_field whole_field text_field first_text_field flag_field
+returns-clause-made c = refl
+
+pub returns-clause-asked : goal.returns-clause-asked
+unfolding digits field_name first_field number_field whole_field text_field first_text_field flag_field
+returns-clause-asked c = refl
+
+pub returns-clause-there : goal.returns-clause-there
+unfolding digits field_name first_field number_field whole_field text_field first_text_field flag_field
+returns-clause-there c = refl
+
+pub returns-clause-graphs : goal.returns-clause-graphs
+unfolding digits field_name first_field number_field whole_field text_field first_text_field flag_field
+returns-clause-graphs c = refl
+
+pub returns-clause-graph_rows : goal.returns-clause-graph_rows
+unfolding digits field_name first_field number_field whole_field text_field first_text_field flag_field
+returns-clause-graph_rows c = refl
+
+pub returns-clause-jobs : goal.returns-clause-jobs
+unfolding digits field_name first_field number_field whole_field text_field first_text_field flag_field
+returns-clause-jobs c = refl

@@ -1,0 +1,24 @@
+use Rattle.std.proofs.Common.{refl}
+use Rattle.desk_core.proofs.GraphSteps.{without-fault}
+use Rattle.desk_core.proofs.desk.Desk.apply.Goals as goal
+
+pub returns-in-ProjectEnd-clause-fault : goal.returns-in-ProjectEnd-clause-fault
+returns-in-ProjectEnd-clause-fault g c = without-fault _ _ _ _ _ (c.end_making.ensures.step c.self.inside.store) refl
+
+pub returns-in-Abandon-clause-fault : goal.returns-in-Abandon-clause-fault
+returns-in-Abandon-clause-fault g c = without-fault _ _ _ _ _ (c.abandon.ensures.step c.self-in-Abandon.inside.store) refl
+
+pub returns-in-Terminate-clause-fault : goal.returns-in-Terminate-clause-fault
+returns-in-Terminate-clause-fault g c = without-fault _ _ _ _ _ (c.terminate.ensures.step c.self-in-Terminate.inside.store) refl
+
+pub returns-in-Exists-clause-fault : goal.returns-in-Exists-clause-fault
+returns-in-Exists-clause-fault g c = without-fault _ _ _ _ _ (c.exists.ensures c.self-in-Exists.inside.store) refl
+
+pub returns-in-List-clause-fault : goal.returns-in-List-clause-fault
+returns-in-List-clause-fault g c = without-fault _ _ _ _ _ (c.list.ensures c.self-in-List.inside.store) refl
+
+pub returns-in-Drop-clause-fault : goal.returns-in-Drop-clause-fault
+returns-in-Drop-clause-fault g c = without-fault _ _ _ _ _ (c.drop_graph.ensures.step c.self-in-Drop.inside.store) refl
+
+pub returns-clause-fault : goal.returns-clause-fault
+returns-clause-fault g c = without-fault _ _ _ _ _ (c.jobs.ensures c.self-in-Jobs.inside.store) refl

@@ -1,0 +1,2 @@
+-- Events that are asked for in tests.
+pub mod Calm

@@ -1,0 +1,2 @@
+-- What comes of a capture and a specification.
+pub mod Making
