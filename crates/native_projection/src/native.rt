@@ -56,13 +56,14 @@ pub fn project(
     alloc: Global,
     from: &Snapshot,
     spec: &ProjectSpec,
-    _workers: u32,
+    workers: u32,
 ) -> Result<Projection, Refusal>
-    requires some { 1 ≤ _workers }
-    requires few { _workers ≤ 64 }
+    requires some { 1 ≤ workers }
+    requires few { workers ≤ 64 }
     ensures ok { IfOk result (λ projection. projected spec.now from.now ≡ Ok (plain projection)) }
     ensures refused { IfErr result (λ why. UnlessMem why (projected spec.now from.now ≡ Err why)) }
 {
+    let _ = workers;
     match names_known(from, spec) {
         Ok(()) => {}
         Err(why) => return Err(why),

@@ -11,4 +11,3 @@ mod keys;
 mod taking;
 
 pub use columns::{NodeColumns, project_nodes};
-pub use taking::is_projected;

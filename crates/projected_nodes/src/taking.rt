@@ -26,7 +26,7 @@ pub(crate) fn takes(entry: &NodeEntry, node: &Node) -> bool
 }
 
 /// Whether some entry takes a node.
-pub fn is_projected(entries: &[NodeEntry], node: &Node) -> bool
+pub(crate) fn is_projected(entries: &[NodeEntry], node: &Node) -> bool
     ensures { result ≡ is_projected entries.now node.now }
 {
     entries.iter().any(|entry| takes(entry, node))
