@@ -10,11 +10,16 @@ use std::alloc::Global;
 
 /// The draws of the recurrence.
 #[derive(Drop)]
-struct Draws {
+pub(crate) struct Draws {
     state: u64,
 }
 
 impl Draws {
+    /// The recurrence at its start.
+    pub(crate) fn new() -> Draws {
+        Draws { state: 1 }
+    }
+
     // The next draw.
     fn draw(&mut self) -> u64 {
         let grown = self.state.wrapping_mul(6_364_136_223_846_793_005);
@@ -22,15 +27,15 @@ impl Draws {
         self.state >> 33
     }
 
-    // The next draw as a node.
-    fn node(&mut self, nodes: u32) -> u32
+    /// The next draw as a node.
+    pub(crate) fn node(&mut self, nodes: u32) -> u32
         requires { 0 < nodes }
     {
         (self.draw() % u64::from(nodes)) as u32
     }
 
-    // The next draw as a value.
-    fn value(&mut self) -> i64 {
+    /// The next draw as a value.
+    pub(crate) fn value(&mut self) -> i64 {
         (self.draw() % 100) as i64
     }
 }
@@ -43,7 +48,7 @@ pub(crate) fn sorted_arcs(
 ) -> Result<Vec<(u32, u32, i64)>, Mem>
     requires { 0 < nodes }
 {
-    let mut draws = Draws { state: 1 };
+    let mut draws = Draws::new();
     let mut arcs = Vec::with_capacity(alloc, count as usize)?;
     for _arc in 0..count {
         let source = draws.node(nodes);

@@ -1,44 +1,77 @@
 //! Pieces of work to be timed, each on a graph by a fixed recurrence.
 //!
-//! The words are the case, the number of nodes and the number of arcs, and perhaps `times`. The results go to standard
-//! output. With `times` the seconds of each call go to standard error, by a clock around the call alone; a file in
-//! `bench/` runs the same work in plain Rust beside it. Nothing is claimed of a case but that it is safe and returns.
+//! The words are cases, each with a number of nodes and of arcs, and perhaps `times` behind them: `rows` for rows of arcs,
+//! `project` for a projection of a store. The results go to standard output. With `times` the microseconds of each call go
+//! to standard error, by a clock around the call alone; a file in `bench/` runs the same work in plain Rust beside it.
+//! Nothing is claimed of a case but that it is safe and returns.
 #![tactic(auto)]
 
 mod clock;
 mod graph;
+mod project;
 mod rows;
 mod stop;
+mod told;
 
 use crate::clock::Meter;
 use crate::stop::Stop;
+use graph_model::List;
 use std::env;
 use std::process::ExitCode;
+
+/// A piece of work.
+#[derive(Clone, Copy, Debug, PartialEq, Eq)]
+enum Work {
+    Rows,
+    Project,
+}
+
+/// A piece of work, and the size of its graph.
+#[derive(Clone, Copy, Debug, PartialEq, Eq)]
+struct Case {
+    work: Work,
+    nodes: u32,
+    arcs: u32,
+}
 
 /// What the words ask for.
 #[derive(Drop)]
 struct Plan {
-    nodes: u32,
-    arcs: u32,
+    cases: List<Case>,
     meter: Meter,
 }
 
-// Reads the words: `rows NODES ARCS`, and perhaps `times` behind them.
+// Reads the words: `CASE NODES ARCS` for each case, and perhaps `times` behind them.
 fn read_words(rt: &HostRuntime) -> Result<Plan, Stop> {
-    let mut words = env::args(rt)?.skip(1);
-    let case = words.next().ok_or(Stop::Words)?;
-    if case.as_str() != "rows" {
-        return Err(Stop::Words);
+    let mut words = List::new(rt.alloc());
+    for word in env::args(rt)?.skip(1) {
+        words.push(word)?;
     }
-    let nodes = words.next().ok_or(Stop::Words)?;
-    let arcs = words.next().ok_or(Stop::Words)?;
-    let times = words.next();
+    let mut cases = List::new(rt.alloc());
+    let mut on = false;
+    for group in words.as_slice().chunks(3) {
+        match group {
+            [work, nodes, arcs] => cases.push(read_case(work, nodes, arcs)?)?,
+            [last] if last.as_str() == "times" => on = true,
+            _ => return Err(Stop::Words),
+        }
+    }
     Ok(Plan {
-        nodes: number(nodes.as_str())?,
-        arcs: number(arcs.as_str())?,
-        meter: Meter {
-            on: times.is_some(),
-        },
+        cases,
+        meter: Meter { on },
+    })
+}
+
+fn read_case(work: &str, nodes: &str, arcs: &str) -> Result<Case, Stop> {
+    let work = match work {
+        "rows" => Work::Rows,
+        "project" => Work::Project,
+        _ => return Err(Stop::Words),
+    };
+    Ok(Case {
+        work,
+        nodes: number(nodes)?,
+        arcs: number(arcs)?,
     })
 }
 
@@ -58,5 +91,11 @@ fn main(rt: HostRuntime) -> ExitCode {
 
 fn run(rt: &HostRuntime) -> Result<(), Stop> {
     let plan = read_words(rt)?;
-    rows::run(rt, plan.nodes, plan.arcs, &plan.meter)
+    for case in plan.cases.as_slice() {
+        match case.work {
+            Work::Rows => rows::run(rt, case.nodes, case.arcs, &plan.meter)?,
+            Work::Project => project::run(rt, case.nodes, case.arcs, &plan.meter)?,
+        }
+    }
+    Ok(())
 }

@@ -8,6 +8,7 @@ ghost use Rattle.csr_columns.specs.Parts.{HasNodes, arcs_in, arcs_in_rows, kind_
 use crate::clock::Meter;
 use crate::graph;
 use crate::stop::Stop;
+use crate::told::tell;
 use csr_columns::{Csr, Parts, Projection, TypeColumns};
 use graph_model::{Choice, List, Name, Orientation, Shared, TryClone};
 use std::alloc::Global;
@@ -155,31 +156,4 @@ fn view(rt: &HostRuntime, work: &str, projection: &Projection, meter: &Meter) ->
     let view = projection.view(rt.alloc(), &Choice::All, &Choice::All, Some(&key))?;
     meter.tell(rt, work, start)?;
     tell(rt, work, view.arcs())
-}
-
-// Prints how many nodes and arcs rows have, and a number that all their targets and values make.
-fn tell(rt: &HostRuntime, work: &str, csr: &Csr) -> Result<(), Stop> {
-    let key = Name::read(rt.alloc(), b"w")?;
-    let digest = match csr.place_of(&key) {
-        Some(place) => digest(csr, place),
-        None => 0,
-    };
-    println!(rt; "{work} {} {} {digest}", csr.node_count(), csr.arc_count())?;
-    Ok(())
-}
-
-// A number that the targets of rows and the values in a column make, in their order.
-fn digest(csr: &Csr, place: usize) -> u64
-    requires { place < length csr.now.columns }
-{
-    let mut sum: u64 = 0;
-    for v in 0..csr.node_count() {
-        for target in csr.row(v) {
-            sum = sum.wrapping_mul(31).wrapping_add(u64::from(*target));
-        }
-        for value in csr.values(place, v) {
-            sum = sum.wrapping_mul(31).wrapping_add(value.unsigned_abs());
-        }
-    }
-    sum
 }
