@@ -2,7 +2,8 @@
 --   place_of ids id           the place of an id among ids
 --   slot_at slots id          the place that stands in an id's slot
 --   AreSlots ids slots        in the slot of each id stands its place among ids
-use Rattle.std.specs.Prelude.{◌≡◌, ℕ, ◌+◌, ◌-◌, ◌^◌, ◌<◌, ◌==◌, Bool, if◌then◌else◌, List, [], ◌∷◌, Option, Some, None, unwrap_or, slice_index_or}
+--   AreOwn slots              in the slot of each id stands the id
+use Rattle.std.specs.Prelude.{◌≡◌, ℕ, ◌+◌, ◌-◌, ◌^◌, ◌<◌, ◌==◌, Bool, if◌then◌else◌, List, [], ◌∷◌, length, Option, Some, None, unwrap_or, slice_index_or}
 
 -- the place of an id among ids, where the first of them has this place
 abbrev pub place_from : ℕ → List ℕ → ℕ → Option ℕ
@@ -28,6 +29,10 @@ slot_at slots id = as_place (slice_index_or slots id no_place)
 -- in the slot of each id stands its place among ids
 abbrev pub AreSlots : List ℕ → List ℕ → Type 0
 AreSlots ids slots = (id : ℕ) → slot_at slots id ≡ place_of ids id
+
+-- in the slot of each id stands the id
+abbrev pub AreOwn : List ℕ → Type 0
+AreOwn slots = (id : ℕ) → id < length slots → slot_at slots id ≡ Some id
 
 -- the place in an id's slot, and 0 where there is none
 abbrev pub place_or_zero : List ℕ → ℕ → ℕ

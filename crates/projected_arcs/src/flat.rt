@@ -46,12 +46,22 @@ fn push_turned(
     Ok(())
 }
 
+/// How many arcs so many relationships become.
+fn arc_count(orientation: Orientation, rels: usize) -> usize
+    requires { rels < 2 ^ 32 }
+{
+    match orientation {
+        Orientation::Natural | Orientation::Reverse => rels,
+        Orientation::Undirected => 2 * rels,
+    }
+}
+
 /// The arcs of relationships, one relationship after another.
 fn flat_arcs(alloc: Global, orientation: Orientation, rels: &[&Rel]) -> Result<Vec<FlatArc>, Mem>
     requires { length rels.now < 2 ^ 32 }
     ensures { IfOk result (λ arcs. arcs.items ≡ flat_arcs orientation 0 (map (λ rel. rel.now) rels.now)) }
 {
-    let mut arcs = Vec::with_capacity(alloc, rels.len())?;
+    let mut arcs = Vec::with_capacity(alloc, arc_count(orientation, rels.len()))?;
     for (place, rel) in rels.iter().enumerate() {
         push_turned(&mut arcs, orientation, place as u32, rel)?;
     }

@@ -45,7 +45,7 @@ pub(crate) fn matching_rels<'a>(
 {
     elements_come_by_id();
     from.next_node();
-    let mut rels = Vec::new(alloc);
+    let mut rels = Vec::with_capacity(alloc, from.next_rel() as usize)?;
     for id in 0..from.next_rel() {
         if let Some(rel) = from.rel(id) {
             if joins_placed(places, entry, rel) {

@@ -1,7 +1,7 @@
 // The places of nodes by their ids.
-ghost use Rattle.std.specs.Prelude.{◌≡◌, ◌-◌, ◌^◌, ◌<◌, All, IfOk, length};
+ghost use Rattle.std.specs.Prelude.{◌≡◌, ◌-◌, ◌^◌, ◌<◌, true, All, IfOk, length};
 ghost use Rattle.std.specs.List.Sorted.{IsStrictlyIncreasing};
-ghost use Rattle.projected_arcs.specs.Places.{AreSlots, slot_at, place_or_zero};
+ghost use Rattle.projected_arcs.specs.Places.{AreOwn, AreSlots, slot_at, place_or_zero};
 
 use graph_model::Mem;
 use std::alloc::Global;
@@ -14,14 +14,44 @@ const NO_PLACE: u32 = u32::MAX;
 #[derive(Drop)]
 pub struct Places {
     slots: Vec<u32>,
+    // Whether each id below the number of slots is its own place, so that no slot has to be read.
+    whole: bool,
 }
 
 impl Model for Places {
-    ghost use Rattle.std.specs.Prelude.{List, ℕ};
+    ghost use Rattle.std.specs.Prelude.{◌≡◌, true, List, ℕ};
+    ghost use Rattle.projected_arcs.specs.Places.{AreOwn};
 
     ghost Value = { List ℕ };
 
     ghost view = { λ places. places.slots.items };
+
+    ghost invariant = { λ places. places.whole ≡ true → AreOwn places.slots.items };
+}
+
+/// The place that stands in an id's slot.
+#[inline]
+fn slot_at(slots: &[u32], id: u32) -> Option<u32>
+    ensures { result ≡ slot_at slots.now id }
+{
+    match slots.get(id as usize) {
+        Some(&place) if place != NO_PLACE => Some(place),
+        _ => None,
+    }
+}
+
+/// Whether each id below the number of slots is its own place.
+fn are_own(below: u32, slots: &[u32]) -> bool
+    requires { length slots.now ≡ below }
+    ensures { result ≡ true → AreOwn slots.now }
+{
+    for id in 0..below {
+        match slot_at(slots, id) {
+            Some(place) if place == id => {}
+            _ => return false,
+        }
+    }
+    true
 }
 
 impl Places {
@@ -39,7 +69,8 @@ impl Places {
         for (place, id) in ids.iter().enumerate() {
             slots[*id as usize] = place as u32;
         }
-        Ok(Places { slots })
+        let whole = are_own(below, slots.as_slice());
+        Ok(Places { slots, whole })
     }
 
     /// The place of an id, where it has one.
@@ -47,9 +78,13 @@ impl Places {
     pub(crate) fn place(&self, id: u32) -> Option<u32>
         ensures { result ≡ slot_at self.now id }
     {
-        match self.slots.get(id as usize) {
-            Some(&place) if place != NO_PLACE => Some(place),
-            _ => None,
+        if !self.whole {
+            return slot_at(self.slots.as_slice(), id);
+        }
+        if (id as usize) < self.slots.len() {
+            Some(id)
+        } else {
+            None
         }
     }
 
