@@ -1,5 +1,5 @@
 // Named graphs on a desk, asked for event by event, with the text of each answer.
-ghost use Rattle.std.specs.Prelude.{◌≡◌, ◌≢◌, ℕ, List, IfOk, OnOk};
+ghost use Rattle.std.specs.Prelude.{◌≡◌, ◌≢◌, ℕ, List, IfOk, OnOk, OnErr};
 ghost use Rattle.graph_making.specs.Making.{BuiltFields};
 ghost use Rattle.desk_model.specs.State.{part_of};
 ghost use Rattle.desk_model.specs.Step.{IsReady};
@@ -11,7 +11,7 @@ use crate::projections::{SMALL, making_of, nothing};
 use call_codec::answer_text;
 use desk_core::{Asked, Built, Captured, Desk, Event, MakeSpec, Reply};
 use desk_model::laws::one_job;
-use graph_model::{Change, Choice, List, Name, Tag, TryClone};
+use graph_model::{Change, Choice, List, Name, Refusal, Tag, TryClone};
 use projection_spec::ProjectSpec;
 use serde_json::Value;
 use std::alloc::Global;
@@ -30,19 +30,13 @@ fn new_desk(alloc: Global) -> Result<Desk<MemKeeper>, Fail>
 }
 
 // Asks for an event of a user who has no job, which begins none.
-fn ask(
-    desk: &mut Desk<MemKeeper>,
-    alloc: Global,
-    user: &Tag,
-    event: Event,
-) -> Result<Reply, Fail>
-    requires idle { IsIdle (part_of (state_of desk.old) user.now) }
-    requires calm { IsCalm event }
-    ensures { OnOk result (IsIdle (part_of (state_of desk.new) user.now)) }
+fn ask(desk: &mut Desk<MemKeeper>, alloc: Global, asked: Asked) -> Reply
+    requires idle { IsIdle (part_of (state_of desk.old) asked.user) }
+    requires calm { IsCalm asked.event }
+    ensures { IsIdle (part_of (state_of desk.new) asked.user) }
 {
     one_job();
-    let user = user.try_clone()?;
-    Ok(desk.apply(alloc, Asked { user, event }))
+    desk.apply(alloc, asked)
 }
 
 // What projects each node and these relationships, twice.
@@ -61,22 +55,48 @@ fn specs(alloc: Global, rels: &str) -> Result<(ProjectSpec, ProjectSpec), Fail>
 fn end(
     desk: &mut Desk<MemKeeper>,
     alloc: Global,
-    user: &Tag,
+    user: Tag,
     job: u32,
-    from: &Captured,
-    spec: &MakeSpec,
+    from: Captured,
+    spec: MakeSpec,
 ) -> Result<Reply, Fail>
-    requires only { HasOnly job (part_of (state_of desk.old) user.now) }
-    requires ready { (built : BuiltFields) → built.from ≡ from.now → built.spec ≡ spec.now → IsReady (Event.ProjectEnd job built) (part_of (state_of desk.old) user.now) }
-    ensures { OnOk result (IsIdle (part_of (state_of desk.new) user.now)) }
+    requires only { HasOnly job (part_of (state_of desk.old) user) }
+    requires ready { (built : BuiltFields) → built.from ≡ from → built.spec ≡ spec → IsReady (Event.ProjectEnd job built) (part_of (state_of desk.old) user) }
+    ensures { OnOk result (IsIdle (part_of (state_of desk.new) user)) }
 {
     one_job();
-    let built = Built::make(alloc, from, spec, 4)?;
-    let user = user.try_clone()?;
+    let built = Built::make(alloc, &from, &spec, 4)?;
     let event = Event::ProjectEnd { job, built };
     match desk.apply(alloc, Asked { user, event }) {
         Reply::Made(line) => Ok(Reply::Made(line)),
         _ => Err(Fail::from("no graph")),
+    }
+}
+
+// Begins to make a graph of a user who has no job.
+fn begin(
+    desk: &mut Desk<MemKeeper>,
+    alloc: Global,
+    user: Tag,
+    graph: Tag,
+    asked: ProjectSpec,
+) -> Result<(u32, Captured), Refusal>
+    requires { IsIdle (part_of (state_of desk.old) user) }
+    ensures only { IfOk result (λ begun. HasOnly begun.0 (part_of (state_of desk.new) user)) }
+    ensures ready { IfOk result (λ begun. (built : BuiltFields) → built.from ≡ begun.1 → built.spec ≡ MakeSpec.Native asked → IsReady (Event.ProjectEnd begun.0 built) (part_of (state_of desk.new) user)) }
+    ensures idle { OnErr result (IsIdle (part_of (state_of desk.new) user)) }
+{
+    one_job();
+    let spec = MakeSpec::Native(asked);
+    let event = Event::ProjectBegin {
+        graph,
+        job: None,
+        spec,
+    };
+    match desk.apply(alloc, Asked { user, event }) {
+        Reply::Making { job, name: _, from } => Ok((job, from)),
+        Reply::Refused(why) => Err(why),
+        _ => Err(Refusal::BadHttp),
     }
 }
 
@@ -91,27 +111,12 @@ fn project(
     requires { IsIdle (part_of (state_of desk.old) user.now) }
     ensures { OnOk result (IsIdle (part_of (state_of desk.new) user.now)) }
 {
-    one_job();
     let (asked, again) = specs(alloc, rels)?;
-    let spec = MakeSpec::Native(asked);
-    let asked_by = user.try_clone()?;
-    let event = Event::ProjectBegin {
-        graph,
-        job: None,
-        spec,
-    };
-    match desk.apply(
-        alloc,
-        Asked {
-            user: asked_by,
-            event,
-        },
-    ) {
-        Reply::Making { job, name: _, from } => {
-            end(desk, alloc, user, job, &from, &MakeSpec::Native(again))
-        }
-        Reply::Refused(why) => Ok(Reply::Refused(why)),
-        _ => Err(Fail::from("another reply")),
+    let begun_by = user.try_clone()?;
+    let ended_by = user.try_clone()?;
+    match begin(desk, alloc, begun_by, graph, asked) {
+        Ok((job, from)) => end(desk, alloc, ended_by, job, from, MakeSpec::Native(again)),
+        Err(why) => Ok(Reply::Refused(why)),
     }
 }
 
@@ -125,37 +130,20 @@ fn project_while_deleting(
 ) -> Result<Reply, Fail>
     requires idle { IsIdle (part_of (state_of desk.old) user.now) }
     requires apart { user.now ≢ other.now }
-    ensures { OnOk result (IsIdle (part_of (state_of desk.new) user.now)) }
 {
-    one_job();
     let (asked, again) = specs(alloc, "\"R\"")?;
-    let spec = MakeSpec::Native(asked);
-    let asked_by = user.try_clone()?;
-    let deleted_by = other.try_clone()?;
-    let event = Event::ProjectBegin {
-        graph,
-        job: None,
-        spec,
+    let begun_by = user.try_clone()?;
+    let ended_by = user.try_clone()?;
+    let deleted = Asked {
+        user: other.try_clone()?,
+        event: delete(alloc, 0)?,
     };
-    match desk.apply(
-        alloc,
-        Asked {
-            user: asked_by,
-            event,
-        },
-    ) {
-        Reply::Making { job, name: _, from } => {
-            let event = delete(alloc, 0)?;
-            desk.apply(
-                alloc,
-                Asked {
-                    user: deleted_by,
-                    event,
-                },
-            );
-            end(desk, alloc, user, job, &from, &MakeSpec::Native(again))
+    match begin(desk, alloc, begun_by, graph, asked) {
+        Ok((job, from)) => {
+            drop(desk.apply(alloc, deleted));
+            end(desk, alloc, ended_by, job, from, MakeSpec::Native(again))
         }
-        _ => Err(Fail::from("another reply")),
+        Err(why) => Ok(Reply::Refused(why)),
     }
 }
 
@@ -207,6 +195,13 @@ fn event_of(alloc: Global, verb: &str, name: &str) -> Result<Event, Fail>
     }
 }
 
+// The text of a reply.
+fn text_of(alloc: Global, reply: Reply) -> Result<List<u8>, Fail> {
+    let text = answer_text(alloc, &reply);
+    drop(reply);
+    Ok(text?)
+}
+
 // What words are answered with.
 fn answer(
     desk: &mut Desk<MemKeeper>,
@@ -218,13 +213,14 @@ fn answer(
     ensures { OnOk result (IsIdle (part_of (state_of desk.new) user.now)) }
 {
     let (verb, name) = words.split_once(" ").ok_or("a name")?;
-    let reply = if verb == "project" {
+    if verb == "project" {
         let graph = Tag::read(alloc, name.as_bytes())?;
-        project(desk, alloc, user, graph, r#"{"R":{"properties":"w"}}"#)?
-    } else {
-        ask(desk, alloc, user, event_of(alloc, verb, name)?)?
-    };
-    Ok(answer_text(alloc, &reply)?)
+        let reply = project(desk, alloc, user, graph, r#"{"R":{"properties":"w"}}"#)?;
+        return text_of(alloc, reply);
+    }
+    let user = user.try_clone()?;
+    let event = event_of(alloc, verb, name)?;
+    text_of(alloc, ask(desk, alloc, Asked { user, event }))
 }
 
 // Each row: what is asked for, and the answer.
@@ -276,11 +272,12 @@ fn captured_store_is_projected(rt: HostRuntime) -> Result<(), Fail> {
     let alice = Tag::read(alloc, b"alice")?;
     let bob = Tag::read(alloc, b"bob")?;
     let mut desk = new_desk(alloc)?;
-    ask(&mut desk, alloc, &alice, make_small(alloc)?)?;
+    answer(&mut desk, alloc, &alice, "make small")?;
     let graph = Tag::read(alloc, b"g")?;
     let reply = project_while_deleting(&mut desk, alloc, &alice, &bob, graph)?;
-    let text = answer_text(alloc, &reply)?;
-    let said = r#"{"ok":{"graphName":"g","nodeCount":6,"relationshipCount":6,"version":1,"jobId":"job-1"}}"#;
+    let text = text_of(alloc, reply)?;
+    let said =
+        r#"{"ok":{"graphName":"g","nodeCount":6,"relationshipCount":6,"version":1,"jobId":"job-1"}}"#;
     assert_eq!(rt; text.as_slice(), said.as_bytes());
     Ok(())
 }
@@ -296,11 +293,10 @@ fn make_many(
 {
     for number in 0..count {
         let graph = Tag::read(alloc, number.to_string(alloc)?.as_str().as_bytes())?;
-        project(desk, alloc, user, graph, "\"*\"")?;
+        drop(project(desk, alloc, user, graph, "\"*\"")?);
     }
     let graph = Tag::read(alloc, b"more")?;
-    let reply = project(desk, alloc, user, graph, "\"*\"")?;
-    Ok(answer_text(alloc, &reply)?)
+    text_of(alloc, project(desk, alloc, user, graph, "\"*\"")?)
 }
 
 #[test]

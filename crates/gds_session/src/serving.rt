@@ -80,12 +80,21 @@ impl Pending {
 }
 
 /// The text of a reply, and an LF.
+fn line_text(alloc: Global, reply: &Reply) -> Result<Vec<u8>, Mem>
+    ensures { IfOk result (λ text. text.items ≡ line_answer (plain_reply reply.now)) }
+{
+    let mut text = answer_text(alloc, reply)?.into_vec();
+    text.push(b'\n')?;
+    Ok(text)
+}
+
+/// The text of a reply, and an LF; the reply is gone.
 fn text_of(alloc: Global, reply: Reply) -> Result<Vec<u8>, Mem>
     ensures { IfOk result (λ text. text.items ≡ line_answer (plain_reply reply)) }
 {
-    let mut text = answer_text(alloc, &reply)?.into_vec();
-    text.push(b'\n')?;
-    Ok(text)
+    let text = line_text(alloc, &reply);
+    drop(reply);
+    text
 }
 
 /// Writes a text, and flushes.
