@@ -1,6 +1,5 @@
 // Stores projected by specifications, each as a text.
-ghost use Rattle.std.specs.Prelude.{◌≡◌, ◌≤◌, IfOk};
-ghost use Rattle.graph_model.specs.SmallStore.{empty_graph};
+ghost use Rattle.std.specs.Prelude.{◌≤◌, IfOk};
 ghost use Rattle.graph_model.specs.Change.{IsWellFormedChange};
 ghost use Rattle.desk_model.specs.Script.{IsFormedCall};
 
@@ -16,7 +15,7 @@ use std::alloc::Global;
 use std::test::Fail;
 
 // The small store: six nodes, and six relationships of type R with the key w.
-pub(crate) const SMALL: &str =
+const SMALL: &str =
     r#"[{},{},{},{},{},{}];{"source":{"new":0},"target":{"new":1},"type":"R","properties":{"w":4}},{"source":{"new":1},"target":{"new":2},"type":"R","properties":{"w":1}},{"source":{"new":0},"target":{"new":2},"type":"R","properties":{"w":7}},{"source":{"new":2},"target":{"new":2},"type":"R","properties":{"w":0}},{"source":{"new":3},"target":{"new":4},"type":"R","properties":{"w":5}},{"source":{"new":3},"target":{"new":4},"type":"R","properties":{"w":2}}"#;
 
 // Two nodes, and two relationships whose sum leaves i64.
@@ -70,7 +69,7 @@ fn change_of(call: Call) -> Result<Change, Fail>
 }
 
 // The change that a line asks for.
-pub(crate) fn change_asked(alloc: Global, line: &[u8]) -> Result<Change, Fail>
+fn change_asked(alloc: Global, line: &[u8]) -> Result<Change, Fail>
     ensures { IfOk result IsWellFormedChange }
 {
     if line.len() > 16_777_216 {
@@ -80,21 +79,15 @@ pub(crate) fn change_asked(alloc: Global, line: &[u8]) -> Result<Change, Fail>
     change_of(call)
 }
 
-// A graph with nothing in it.
-pub(crate) fn nothing(alloc: Global) -> PropertyGraph
-    ensures { result ≡ empty_graph }
-{
-    PropertyGraph {
+// A store with nothing in it.
+fn empty_store(alloc: Global) -> Result<Store, Mem> {
+    let nothing = PropertyGraph {
         nodes: List::new(alloc),
         rels: List::new(alloc),
         next_node: 0,
         next_rel: 0,
-    }
-}
-
-// A store with nothing in it.
-fn empty_store(alloc: Global) -> Result<Store, Mem> {
-    Store::of(alloc, nothing(alloc))
+    };
+    Store::of(alloc, nothing)
 }
 
 // A store after a change, at one moment.
@@ -107,20 +100,13 @@ fn after(alloc: Global, change: &Change) -> Result<Snapshot, Refusal>
     Ok(store.snapshot()?)
 }
 
-// The making of these nodes and relationships.
-pub(crate) fn making_of(alloc: Global, made: &str) -> Result<Change, Fail>
-    ensures { IfOk result IsWellFormedChange }
-{
+// A store after the making of these nodes and relationships, at one moment.
+fn store_of(alloc: Global, made: &str) -> Result<Snapshot, Fail> {
     let (nodes, rels) = made.split_once(";").ok_or("relationships")?;
     let line = format!(in alloc;
         "{{\"user\":\"u\",\"call\":\"gds.store.create\",\"args\":{{\"nodes\":{nodes},\"relationships\":[{rels}]}}}}"
     )?;
-    change_asked(alloc, line.as_bytes())
-}
-
-// A store after the making of these nodes and relationships, at one moment.
-fn store_of(alloc: Global, made: &str) -> Result<Snapshot, Fail> {
-    let change = making_of(alloc, made)?;
+    let change = change_asked(alloc, line.as_bytes())?;
     Ok(after(alloc, &change)?)
 }
 

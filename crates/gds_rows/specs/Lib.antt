@@ -1,2 +1,0 @@
--- Events that are asked for in tests.
-pub mod Calm
