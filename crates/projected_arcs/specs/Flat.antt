@@ -36,6 +36,12 @@ turned_flat Natural place rel = flat_arc place rel.source rel.target ∷ []
 turned_flat Reverse place rel = flat_arc place rel.target rel.source ∷ []
 turned_flat Undirected place rel = flat_arc place rel.source rel.target ∷ flat_arc place rel.target rel.source ∷ []
 
+-- how many arcs a relationship becomes
+abbrev pub ways : Orientation → ℕ
+ways Natural = 1
+ways Reverse = 1
+ways Undirected = 2
+
 -- the arcs of relationships, of which the first has this place
 abbrev pub flat_arcs : Orientation → ℕ → List Rel → List FlatArc
 flat_arcs orientation first [] = []

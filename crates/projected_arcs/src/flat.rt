@@ -1,7 +1,7 @@
 // Arcs in one flat list, in order.
-ghost use Rattle.std.specs.Prelude.{◌≡◌, ◌<◌, ◌^◌, ◌++◌, length, map, IfOk, OnOk};
+ghost use Rattle.std.specs.Prelude.{◌≡◌, ◌<◌, ◌^◌, ◌*◌, ◌++◌, length, map, IfOk, OnOk};
 ghost use Rattle.graph_model.specs.Lists.{in_order};
-ghost use Rattle.projected_arcs.specs.Flat.{flat_arcs, flat_before, turned_flat};
+ghost use Rattle.projected_arcs.specs.Flat.{flat_arcs, flat_before, turned_flat, ways};
 
 use graph_model::{Mem, Orientation, Rel};
 use std::alloc::Global;
@@ -49,6 +49,7 @@ fn push_turned(
 /// How many arcs so many relationships become.
 fn arc_count(orientation: Orientation, rels: usize) -> usize
     requires { rels < 2 ^ 32 }
+    ensures { result ≡ ways orientation * rels }
 {
     match orientation {
         Orientation::Natural | Orientation::Reverse => rels,

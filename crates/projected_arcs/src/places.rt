@@ -43,7 +43,8 @@ fn slot_at(slots: &[u32], id: u32) -> Option<u32>
 /// Whether each id below the number of slots is its own place.
 fn are_own(below: u32, slots: &[u32]) -> bool
     requires { length slots.now ≡ below }
-    ensures { result ≡ true → AreOwn slots.now }
+    ensures own { result ≡ true → AreOwn slots.now }
+    ensures all { AreOwn slots.now → result ≡ true }
 {
     for id in 0..below {
         match slot_at(slots, id) {
