@@ -1,5 +1,5 @@
 -- A user who has one job at a time.
-use Rattle.std.proofs.Common.{◌≡◌, ℕ, inl, inr, false, List, [], ◌∷◌, ◌++◌, Option, Some, None, Result, Ok, Err, refl, sym, ap, ◌∙◌, subst}
+use Rattle.std.proofs.Common.{◌≡◌, ◌⊎◌, ℕ, inl, inr, Bool, true, false, cond, List, [], ◌∷◌, ◌++◌, Option, Some, None, Result, Ok, Err, refl, sym, ap, ◌∙◌, subst}
 use Rattle.std.specs.List.{find}
 use Rattle.std.proofs.lemmas.Bool.{cond-true, true≢false, eq-eqb}
 use Rattle.graph_model.specs.declared.refusal.Refusal.{Refusal}
@@ -8,12 +8,12 @@ use Rattle.graph_making.specs.declared.capture.Captured.{Captured}
 use Rattle.graph_making.specs.declared.capture.MakeSpec.{MakeSpec}
 use Rattle.graph_making.specs.Making.{BuiltFields}
 use Rattle.desk_model.specs.declared.asked.Event.{Event}
-use Rattle.desk_model.specs.declared.asked.Event.TheVariants.{ProjectBegin, ProjectEnd, Abandon}
+use Rattle.desk_model.specs.declared.asked.Event.TheVariants.{ProjectBegin, ProjectEnd, Abandon, Terminate}
 use Rattle.desk_model.specs.Replies.{PlainReply, Making}
 use Rattle.desk_model.specs.State.{Job, Make, UserLists, Part}
-use Rattle.desk_model.specs.Jobs.{is_numbered, job_of, jobs_without, jobs_asked, next_job, comes_of}
-use Rattle.desk_model.specs.Step.{Mark, Plain, OutOfMemory, Fault, IsBuiltForSome, MayStand, step, mark_of, unless_refused, refusal_of, ended_with, made_by}
-use Rattle.desk_model.specs.OneJob.{IsIdle, HasOnly, has_begun, BegunIsReady, EndedIsIdle, AbandonedIsIdle, IdleStays}
+use Rattle.desk_model.specs.Jobs.{is_numbered, is_job_named, job_of, jobs_without, jobs_asked, asked_to_end, next_job, comes_of}
+use Rattle.desk_model.specs.Step.{Mark, Plain, OutOfMemory, Fault, IsBuiltFor, IsBuiltForSome, IsReady, IsStep, MayStand, step, mark_of, unless_refused, refusal_of, ended_with, made_by}
+use Rattle.desk_model.specs.OneJob.{IsIdle, HasOnly, has_begun, BegunIsReady, EndedIsIdle, AbandonedIsIdle, AskedStays, IdleStays}
 use Rattle.desk_model.proofs.Effects.{Effect, step-effect}
 use Rattle.desk_model.proofs.Ready.{adds-of, begun-number, begun-fits}
 
@@ -81,6 +81,53 @@ abandoned Fault number part may = absurd (true≢false (sym may.0))
 pub abandoned_is_idle : AbandonedIsIdle
 abandoned_is_idle old new number reply has is =
     only-without number old new has (ap (λ (part : Part). part.lists.jobs) is.left ∙ abandoned (mark_of reply) number old is.mark)
+
+-- a request that a job end leaves the jobs, or those with one that is asked
+asked-jobs : (mark : Mark) (name : List ℕ) (part : Part) → ((step mark (Terminate name) part).part.lists.jobs ≡ part.lists.jobs) ⊎ ((step mark (Terminate name) part).part.lists.jobs ≡ jobs_asked name part.lists.jobs)
+asked-jobs Plain name part = unless (refusal_of (Terminate name) part)
+  where
+    unless : (refused : Option Refusal) → ((unless_refused refused (Terminate name) part).part.lists.jobs ≡ part.lists.jobs) ⊎ ((unless_refused refused (Terminate name) part).part.lists.jobs ≡ jobs_asked name part.lists.jobs)
+    unless None = inr refl
+    unless (Some why) = inl refl
+asked-jobs OutOfMemory name part = inl refl
+asked-jobs Fault name part = inl refl
+
+-- the job of this number alone, and its end as ready as it was
+abbrev Remains : ℕ → Part → Part → Type 0
+Remains number old new = HasOnly number new × ((built : BuiltFields) → IsReady (ProjectEnd number built) old → IsReady (ProjectEnd number built) new)
+
+same-remains : (number : ℕ) (old new : Part) → HasOnly number old → new.lists.jobs ≡ old.lists.jobs → Remains number old new
+same-remains number old new has same = (
+  record { job = has.job; only = same ∙ has.only; number_is = has.number_is },
+  λ built ready. subst (IsBuiltForSome built) (ap (find (is_numbered number)) (sym same)) ready,
+)
+
+-- a job that is asked to end is the one that it was but for that
+asked-remains : (number : ℕ) (old new : Part) (has : HasOnly number old) → new.lists.jobs ≡ asked_to_end has.job ∷ [] → Remains number old new
+asked-remains number old new has left = (
+  record { job = asked_to_end has.job; only = left; number_is = has.number_is },
+  λ built ready.
+      let own : IsBuiltFor built has.job = subst (IsBuiltForSome built) (ap (find (is_numbered number)) has.only ∙ only-found number has.job has.number_is) ready in
+      subst (IsBuiltForSome built) (sym (ap (find (is_numbered number)) left ∙ only-found number (asked_to_end has.job) has.number_is)) (record {
+        kind = own.kind;
+        captured = own.captured;
+        spec = own.spec;
+      }),
+)
+
+pub asked_stays : AskedStays
+asked_stays old new number name reply has is = of_jobs (asked-jobs (mark_of reply) name old)
+  where
+    left : new.lists.jobs ≡ (step (mark_of reply) (Terminate name) old).part.lists.jobs
+    left = ap (λ (part : Part). part.lists.jobs) is.left
+
+    named : (b : Bool) → new.lists.jobs ≡ cond b (asked_to_end has.job ∷ []) (has.job ∷ []) → Remains number old new
+    named true e = asked-remains number old new has e
+    named false e = same-remains number old new has (e ∙ sym has.only)
+
+    of_jobs : ((step (mark_of reply) (Terminate name) old).part.lists.jobs ≡ old.lists.jobs) ⊎ ((step (mark_of reply) (Terminate name) old).part.lists.jobs ≡ jobs_asked name old.lists.jobs) → Remains number old new
+    of_jobs (inl same) = same-remains number old new has (left ∙ same)
+    of_jobs (inr asked) = named (is_job_named name has.job) (left ∙ asked ∙ ap (jobs_asked name) has.only)
 
 -- an event that begins no job leaves none
 idle-after : (old new : UserLists) (event : Event) (reply : PlainReply) → old.jobs ≡ [] → has_begun event reply ≡ false → Effect old new event reply → new.jobs ≡ []

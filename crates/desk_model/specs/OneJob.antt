@@ -7,7 +7,7 @@ use Rattle.graph_making.specs.declared.capture.Captured.{Captured}
 use Rattle.graph_making.specs.declared.capture.MakeSpec.{MakeSpec}
 use Rattle.graph_making.specs.Making.{BuiltFields}
 use Rattle.desk_model.specs.declared.asked.Event.{Event}
-use Rattle.desk_model.specs.declared.asked.Event.TheVariants.{ProjectBegin, ProjectEnd, Abandon}
+use Rattle.desk_model.specs.declared.asked.Event.TheVariants.{ProjectBegin, ProjectEnd, Abandon, Terminate}
 use Rattle.desk_model.specs.Replies.{PlainReply, Making}
 use Rattle.desk_model.specs.State.{Job, Part}
 use Rattle.desk_model.specs.Step.{Plain, IsReady, IsStep, mark_of}
@@ -41,6 +41,12 @@ EndedIsIdle = (old new : Part) (number : ℕ) (built : BuiltFields) (reply : Pla
 abbrev pub AbandonedIsIdle : Type 0
 AbandonedIsIdle = (old new : Part) (number : ℕ) (reply : PlainReply) →
     HasOnly number old → IsStep (Abandon number) old reply new → IsIdle new
+
+-- a request that a job end leaves the only job, and its end as ready as it was
+abbrev pub AskedStays : Type 0
+AskedStays = (old new : Part) (number : ℕ) (name : List ℕ) (reply : PlainReply) →
+    HasOnly number old → IsStep (Terminate name) old reply new →
+    HasOnly number new × ((built : BuiltFields) → IsReady (ProjectEnd number built) old → IsReady (ProjectEnd number built) new)
 
 -- where there is no job, every event that begins none leaves none
 abbrev pub IdleStays : Type 0

@@ -12,7 +12,7 @@ ghost use Rattle.graph_model.specs.declared.graph.Choice.TheVariants.{All};
 ghost use Rattle.graph_model.specs.SmallStore.{small_store};
 ghost use Rattle.desk_model.specs.Step.{Plain, OutOfMemory, Fault, step};
 ghost use Rattle.desk_model.specs.History.{RepliesAreOwn, OthersStay, PermittedIsReady};
-ghost use Rattle.desk_model.specs.OneJob.{BegunIsReady, EndedIsIdle, AbandonedIsIdle, IdleStays};
+ghost use Rattle.desk_model.specs.OneJob.{BegunIsReady, EndedIsIdle, AbandonedIsIdle, AskedStays, IdleStays};
 ghost use Rattle.desk_model.specs.WorkedRows.{nothing_kept, import_small_store, imported, set_two, all_rows, small_part, begin_g, making_g, emptied, end_job, terminate, asked_g, made_g, line_g, drop_g, making_again, every_element};
 
 /// The table of steps, evaluated: the small store is imported, and imported again; its import fails for a fault of the
@@ -67,10 +67,12 @@ pub fn permitted_is_ready()
     ensures { PermittedIsReady }
 {}
 
-/// A user who has one job at a time: its end is ready with what was made of its capture, and it leaves no job.
+/// A user who has one job at a time: its end is ready with what was made of its capture, also after a request that it end, and
+/// it leaves no job.
 pub fn one_job()
     ensures begun { BegunIsReady }
     ensures ended { EndedIsIdle }
     ensures abandoned { AbandonedIsIdle }
+    ensures asked { AskedStays }
     ensures others { IdleStays }
 {}
