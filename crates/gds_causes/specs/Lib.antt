@@ -4,3 +4,4 @@ pub mod MemSource
 pub mod MemSink
 pub mod Front
 pub mod Counted
+pub mod Turned

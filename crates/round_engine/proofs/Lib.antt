@@ -1,0 +1,4 @@
+-- What rounds keep.
+pub mod Turning
+pub mod Sums
+pub mod Rounding

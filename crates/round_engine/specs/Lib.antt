@@ -1,0 +1,3 @@
+-- Columns of values and what a round makes of them.
+pub mod Columns
+pub mod Rounds
