@@ -24,3 +24,4 @@ pub mod MergedArcs
 pub mod Numbering
 pub mod MergedRows
 pub mod Mirrored
+pub mod ViewRows

@@ -8,7 +8,7 @@ use Rattle.std.proofs.lemmas.List.Concat.{length-flat_map}
 use Rattle.std.proofs.lemmas.Slice.Zip.{length-zip, get_or-zip, firsts-zip}
 use Rattle.std.proofs.lemmas.Bool.{cond-true, cond-false, false_from_ne_true}
 use Rattle.graph_model.specs.Projection.{under}
-use Rattle.csr_columns.specs.Rows.{HasTargetsBelow, IsBeside, row_at, column_at}
+use Rattle.csr_columns.specs.Rows.{HasColumnsBeside, HasTargetsBelow, IsBeside, row_at, column_at}
 use Rattle.csr_columns.specs.Offsets.{cut_row, cut_rows, shown, IsUnnamed, IsFirstNamed, CutsRows, AreRows}
 use Rattle.csr_columns.proofs.OffsetRows.{length-cut_rows, row_at-cut_rows, listed-cut_rows, All-cut_row}
 
@@ -88,6 +88,11 @@ beside-shown offsets targets keys columns place are h =
           ∙ length-cut_row offsets column targets v long
           ∙ sym (ap (λ (xs : List ℕ). length xs) (row_at-cut_rows offsets targets v within));
     })
+
+-- so has each column of rows
+pub columns_beside : (offsets targets : List ℕ) (keys : List (List ℕ)) (columns : List (List ℤ)) → AreRows offsets targets keys columns → HasColumnsBeside (shown offsets targets keys columns)
+columns_beside offsets targets keys columns are place h =
+    beside-shown offsets targets keys columns place are (omega (arith, h, length-columns-shown offsets targets keys columns are.named))
 
 -- the same of the place of a key
 pub beside-found : (offsets targets : List ℕ) (keys : List (List ℕ)) (columns : List (List ℤ)) (key : List ℕ) (place : Option ℕ) → AreRows offsets targets keys columns → MatchOption place (IsUnnamed keys key (length keys)) (IsFirstNamed keys key) → IfSome place (λ p. IsBeside (shown offsets targets keys columns).rows (column_at (shown offsets targets keys columns).columns p))

@@ -14,6 +14,7 @@
 --   listed rows                    the items of rows, one row after another
 --   HasTargetsBelow rows           the targets of all arcs lie below the number of nodes
 --   IsBeside rows column           a column has a value beside each target of rows
+--   HasColumnsBeside arcs          so has each column of arcs
 --   turned_rows rows               every arc turned, and the values with it
 use Rattle.std.specs.Prelude.{◌≡◌, ℕ, ℤ, ◌<◌, ◌≢◌, Bool, Option, Some, None, List, [], length, map, filter, slice_index_or, All, AllPairs}
 use Rattle.std.specs.declared.cmp.Ordering.{Ordering}
@@ -107,6 +108,10 @@ turned_rows arcs = arc_rows_of (length arcs.rows) (map turned (arcs_of arcs.rows
 pub record IsBeside (rows : List (List ℕ)) (column : List (List ℤ)) : Type 0 where
   pub many : length column ≡ length rows
   pub long : (v : ℕ) → v < length rows → length (row_at column v) ≡ length (row_at rows v)
+
+-- each column of arcs has a value beside each target
+abbrev pub HasColumnsBeside : ArcRows → Type 0
+HasColumnsBeside arcs = (place : ℕ) → place < length arcs.columns → IsBeside arcs.rows (column_at arcs.columns place)
 
 -- the targets of all arcs lie below the number of nodes
 pub record HasTargetsBelow (rows : List (List ℕ)) : Type 0 where

@@ -1,14 +1,17 @@
 -- Views in columns, as plain views.
 --   ViewColumns                       the columns of a view
 --   plain_view_of view                a view as a plain view
-use Rattle.std.specs.Prelude.{◌≡◌, ℕ, ℤ, ◌<◌, ◌≤◌, List, map, length, slice_index, Option, None, Some}
+--   view_row view v                   the arcs of a view from a place
+--   HasWeightsAmong view              the weights of a view are a column of its arcs
+--   HasWeightsBeside view             each arc of a view with weights has one
+use Rattle.std.specs.Prelude.{◌≡◌, ℕ, ℤ, ◌<◌, ◌≤◌, List, map, length, slice_index, Option, None, Some, IfSome}
 use Rattle.std.specs.Option.{is_some}
 use Rattle.std.specs.List.{zip}
 use Rattle.std.specs.List.Sorted.{IsStrictlyIncreasing}
 use Rattle.graph_model.specs.Graph.{most_nodes}
 use Rattle.graph_model.specs.Projection.{most_arcs}
 use Rattle.graph_model.specs.View.{ViewArc, PlainView}
-use Rattle.csr_columns.specs.Rows.{ArcRows, arcs_of, listed, column_at}
+use Rattle.csr_columns.specs.Rows.{ArcRows, IsBeside, arcs_at, arcs_of, listed, column_at, row_at}
 use Rattle.csr_columns.specs.Parts.{arcs_in_rows}
 
 -- the ids of a view, its arcs between places of ids, the values of its weight key beside the arcs, and the first chosen
@@ -49,6 +52,23 @@ plain_view_of view = record {
   arcs = plain_view_arcs view.ids view.arcs view.weights;
   directed = view.directed;
 }
+
+-- the arcs from a place among some ids, with the weights beside them
+abbrev pub row_arcs : List ℕ → List (List ℕ) → Option (List (List ℤ)) → ℕ → List ViewArc
+row_arcs ids rows None v = map (bare_arc ids) (arcs_at rows v)
+row_arcs ids rows (Some weights) v = map (heavy_arc ids) (zip (arcs_at rows v) (row_at weights v))
+
+-- the arcs of a view from a place
+abbrev pub view_row : ViewColumns → ℕ → List ViewArc
+view_row view v = row_arcs view.ids view.arcs.rows view.weights v
+
+-- the weights of a view are a column of its arcs
+abbrev pub HasWeightsAmong : ViewColumns → Type 0
+HasWeightsAmong view = IfSome view.weights (λ weights. (place : ℕ) × (place < length view.arcs.columns) × (weights ≡ column_at view.arcs.columns place))
+
+-- each arc of a view with weights has one
+abbrev pub HasWeightsBeside : ViewColumns → Type 0
+HasWeightsBeside view = IfSome view.weights (IsBeside view.arcs.rows)
 
 -- a weight key stands at a place among columns
 abbrev pub StandsAmong : Option ℕ → ℕ → Type 0

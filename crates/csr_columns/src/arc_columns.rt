@@ -1,7 +1,7 @@
 // Arcs by source: where each row begins, and the targets and the values row after row.
 ghost use Rattle.std.specs.Prelude.{◌≡◌, ◌<◌, ◌≤◌, true, [], length, map, sum_by, All, MatchOption, IfOk, IfSome, None, Some, option_copied};
 ghost use Rattle.std.specs.List.Sorted.{IsSorted};
-ghost use Rattle.csr_columns.specs.Rows.{HasTargetsBelow, IsBeside, LiesBelow, AreDistinct, arc_cmp, arc_rows_of, listed, row_at, column_at, turned_rows};
+ghost use Rattle.csr_columns.specs.Rows.{HasColumnsBeside, HasTargetsBelow, IsBeside, LiesBelow, AreDistinct, arc_cmp, arc_rows_of, listed, row_at, column_at, turned_rows};
 ghost use Rattle.csr_columns.specs.Order.{HasAscendingRows};
 ghost use Rattle.csr_columns.specs.Parts.{arcs_in_rows};
 ghost use Rattle.csr_columns.specs.Keeping.{HasPlacesBelow};
@@ -122,11 +122,12 @@ impl ArcColumns {
         })
     }
 
-    /// The number of nodes. The targets of all arcs lie below it.
+    /// The number of nodes. The targets of all arcs lie below it, and each column has a value for each arc.
     #[inline]
     pub(crate) fn node_count(&self) -> u32
         ensures nodes { result ≡ length self.now.rows }
         ensures below { HasTargetsBelow self.now.rows }
+        ensures beside { HasColumnsBeside self.now }
     {
         (self.offsets.len() - 1) as u32
     }

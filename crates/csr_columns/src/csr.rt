@@ -1,7 +1,7 @@
 // Arcs by source, in columns that copies share.
 ghost use Rattle.std.specs.Prelude.{◌≡◌, ◌<◌, ◌≤◌, true, [], length, map, sum_by, All, MatchOption, IfOk, IfSome, None, Some, option_copied};
 ghost use Rattle.std.specs.List.Sorted.{IsSorted};
-ghost use Rattle.csr_columns.specs.Rows.{HasTargetsBelow, IsBeside, names_of, LiesBelow, AreDistinct, arc_cmp, arc_rows_of, listed, row_at, column_at, row_in, turned_rows};
+ghost use Rattle.csr_columns.specs.Rows.{HasColumnsBeside, HasTargetsBelow, IsBeside, names_of, LiesBelow, AreDistinct, arc_cmp, arc_rows_of, listed, row_at, column_at, row_in, turned_rows};
 ghost use Rattle.csr_columns.specs.Order.{HasAscendingRows};
 ghost use Rattle.csr_columns.specs.Parts.{arcs_in_rows};
 ghost use Rattle.csr_columns.specs.Keeping.{HasPlacesBelow};
@@ -92,11 +92,12 @@ impl Csr {
         Csr::sharing(alloc, columns)
     }
 
-    /// The number of nodes. The targets of all arcs lie below it.
+    /// The number of nodes. The targets of all arcs lie below it, and each column has a value for each arc.
     #[inline]
     pub fn node_count(&self) -> u32
         ensures nodes { result ≡ length self.now.rows }
         ensures below { HasTargetsBelow self.now.rows }
+        ensures beside { HasColumnsBeside self.now }
     {
         self.columns.get().node_count()
     }

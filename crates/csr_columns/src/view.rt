@@ -5,6 +5,7 @@ ghost use Rattle.graph_model.specs.Graph.{most_nodes};
 ghost use Rattle.graph_model.specs.Projection.{most_arcs};
 ghost use Rattle.csr_columns.specs.Rows.{row_at, row_in};
 ghost use Rattle.csr_columns.specs.Parts.{arcs_in_rows};
+ghost use Rattle.csr_columns.specs.ViewParts.{HasWeightsAmong};
 
 use crate::csr::Csr;
 use graph_model::{List, Name, Shared};
@@ -42,12 +43,14 @@ impl View {
         self.ids.get().as_slice()
     }
 
-    /// The arcs between places of ids, each row in ascending order of target.
+    /// The arcs between places of ids, each row in ascending order of target. The weights are one of their columns.
     #[inline]
     pub fn arcs(&self) -> &Csr
         ensures arcs { result.now ≡ self.now.arcs }
         ensures rows { length result.now.rows ≡ length self.now.ids }
         ensures few { arcs_in_rows result.now ≤ most_arcs }
+        ensures weights { HasWeightsAmong self.now }
+        ensures ascend { IsStrictlyIncreasing self.now.ids }
     {
         self.arcs.get()
     }

@@ -3,6 +3,7 @@ pub mod Arcs
 pub mod ById
 pub mod Change
 pub mod ChangeLaws
+pub mod Degrees
 pub mod Graph
 pub mod Known
 pub mod Lists
@@ -10,4 +11,5 @@ pub mod Names
 pub mod Projection
 pub mod Refusals
 pub mod SmallStore
+pub mod SmallView
 pub mod View

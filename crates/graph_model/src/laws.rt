@@ -1,8 +1,10 @@
 // Laws of the definitions, each the contract of a function that does nothing.
-ghost use Rattle.std.specs.Prelude.{◌≡◌, [], ◌∷◌, Some, None, codes, pos};
+ghost use Rattle.std.specs.Prelude.{◌≡◌, [], ◌∷◌, Some, None, codes, pos, negsuc, true};
 ghost use Rattle.graph_model.specs.Change.{after_change, refused_change, change_answer};
 ghost use Rattle.graph_model.specs.ById.{ElementsComeById};
 ghost use Rattle.graph_model.specs.ChangeLaws.{FittingChangeKeepsGraph, IdsAreNotUsedAgain};
+ghost use Rattle.graph_model.specs.Degrees.{degrees, weight_refusal};
+ghost use Rattle.graph_model.specs.SmallView.{heavy_view, bare_view, small_view, wrong_arcs};
 ghost use Rattle.graph_model.specs.SmallStore.{empty_graph, make_small_store, small_store, without_node_2};
 
 use crate::change::{Change, ChangeReply};
@@ -32,4 +34,13 @@ pub fn ids_are_not_used_again()
 /// In a valid graph the nodes, and the relationships, are those that live of each id, one id after another.
 pub fn elements_come_by_id()
     ensures { ElementsComeById }
+{}
+
+/// The degrees of a small view, and the first weight that is refused, evaluated.
+pub fn degree_rows()
+    ensures counts { degrees bare_view ≡ pos 2 ∷ pos 1 ∷ pos 1 ∷ pos 2 ∷ pos 0 ∷ pos 0 ∷ [] }
+    ensures sums { degrees heavy_view ≡ pos 11 ∷ pos 1 ∷ pos 0 ∷ pos 7 ∷ pos 0 ∷ pos 0 ∷ [] }
+    ensures taken { weight_refusal heavy_view ≡ None }
+    ensures weightless { weight_refusal bare_view ≡ None }
+    ensures first { weight_refusal (small_view true wrong_arcs) ≡ Some (Refusal.WeightOutOfRange 0 2 (negsuc 0)) }
 {}

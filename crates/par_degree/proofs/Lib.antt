@@ -1,0 +1,4 @@
+-- Degrees and weights, row by row.
+pub mod Refusing
+pub mod Summing
+pub mod Rows

@@ -1,0 +1,3 @@
+-- A run that finds degrees.
+pub mod Weights
+pub mod Runs
