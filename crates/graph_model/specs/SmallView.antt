@@ -25,6 +25,6 @@ heavy_view = small_view true small_arcs
 abbrev pub bare_view : PlainView
 bare_view = small_view false (map bare small_arcs)
 
--- arcs of which one weighs too little, two too much, and one just not too much
+-- three arcs: the first weighs as much as may be, the second too little, and the third too much
 abbrev pub wrong_arcs : List ViewArc
 wrong_arcs = heavy 0 1 (pos 4294967295) ∷ heavy 0 2 (negsuc 0) ∷ heavy 1 2 (pos 4294967296) ∷ []
