@@ -8,6 +8,12 @@ pub record Counted (T : Type 0) : Type 0 where
   pub inner : T
   pub faults : ℕ
 
+-- a writer, as it is and as it was when a flush last succeeded, and how many calls failed
+pub record CountedSink (T : Type 0) : Type 0 where
+  pub inner : T
+  pub at_flush : T
+  pub faults : ℕ
+
 -- the count after a call with this answer: it rises at a failure alone
 abbrev pub count_after : {T : Type 0} → Result T Failed → ℕ → ℕ
 count_after (Ok value) faults = faults

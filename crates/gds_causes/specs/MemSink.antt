@@ -3,10 +3,11 @@ use Rattle.std.specs.Prelude.{ℕ, ◌-◌, Bool, ◌&&◌, ◌||◌, ◌==◌, 
 use Rattle.gds_causes.specs.declared.traits.Failed.{Failed}
 use Rattle.gds_causes.specs.Faults.{count_after_fault, failure, next_number, is_listed}
 
--- the bytes that were taken, how many more there is room for, the most bytes that a write takes,
--- the numbers of the writes that fail, how many writes were made, and how many of them failed
+-- the bytes that were taken, how many of them were flushed, how many more there is room for, the most bytes that a write
+-- takes, the numbers of the writes that fail, how many writes were made, and how many of them failed
 pub record SinkState : Type 0 where
   pub taken : List ℕ
+  pub flushed : ℕ
   pub room : ℕ
   pub piece : ℕ
   pub fails : List ℕ

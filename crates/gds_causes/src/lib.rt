@@ -12,8 +12,6 @@ mod mem_sink;
 mod mem_source;
 mod memory;
 mod standard;
-#[cfg(test)]
-mod tests;
 mod traits;
 
 pub use gate::{Gate, OpenGate, Turned};

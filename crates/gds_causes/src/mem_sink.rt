@@ -1,5 +1,5 @@
 // A sink in memory that takes pieces and fails where it is told to.
-ghost use Rattle.std.specs.Prelude.{◌≡◌, ℕ, List, [], Some, Ok, ◌<◌, ◌≤◌, length, IfOk, OnErr};
+ghost use Rattle.std.specs.Prelude.{◌≡◌, ℕ, List, [], Some, Ok, ◌<◌, ◌≤◌, length, IfOk, OnOk, OnErr};
 ghost use Rattle.std.specs.Io.KnownBytes.{Keeps, WriteAppends};
 ghost use Rattle.gds_causes.specs.Faults.{Rose};
 ghost use Rattle.gds_causes.specs.MemSink.{write_answer, sink_after_write};
@@ -15,6 +15,7 @@ use std::marker::Model;
 #[derive(Debug, Drop)]
 pub struct MemSink {
     bytes: Vec<u8>,
+    flushed: usize,
     room: usize,
     piece: usize,
     fails: Vec<u64>,
@@ -30,6 +31,7 @@ impl Model for MemSink {
 
     ghost view = { λ sink. record {
       taken = sink.bytes.items;
+      flushed = sink.flushed;
       room = sink.room;
       piece = sink.piece;
       fails = sink.fails.items;
@@ -48,10 +50,11 @@ impl MemSink {
     /// `Mem` where there is no memory for the room.
     pub fn new(alloc: Global, room: usize, piece: usize, fails: Vec<u64>) -> Result<MemSink, Mem>
         requires { 0 < piece }
-        ensures { IfOk result (λ sink. sink ≡ record { taken = []; room = room; piece = piece; fails = fails.items; calls = 0; faults = 0 }) }
+        ensures { IfOk result (λ sink. sink ≡ record { taken = []; flushed = 0; room = room; piece = piece; fails = fails.items; calls = 0; faults = 0 }) }
     {
         Ok(MemSink {
             bytes: Vec::with_capacity(alloc, room)?,
+            flushed: 0,
             room,
             piece,
             fails,
@@ -67,6 +70,13 @@ impl MemSink {
         self.bytes.as_slice()
     }
 
+    /// How many of them were flushed.
+    pub fn flushed(&self) -> usize
+        ensures { result ≡ self.now.flushed }
+    {
+        self.flushed
+    }
+
     /// How many writes failed.
     pub fn faults(&self) -> u64
         ensures { result ≡ self.now.faults }
@@ -77,6 +87,8 @@ impl MemSink {
 
 impl Sink for MemSink {
     ghost taken = { λ sink. Some sink.taken };
+
+    ghost flushed = { λ sink. Some sink.flushed };
 
     ghost faults = { λ sink. sink.faults };
 
@@ -90,7 +102,9 @@ impl Sink for MemSink {
         ensures bound { IfOk result (λ n. n ≤ length from.now) }
         ensures progress { IfOk result (λ n. 0 < length from.now → 0 < n) }
         ensures bytes { WriteAppends (Some self.old.taken) (Some self.new.taken) result from.now }
+        ensures held { Some self.new.flushed ≡ Some self.old.flushed }
         ensures fault { OnErr result (Rose self.old.faults self.new.faults) }
+        ensures calm { OnOk result (self.new.faults ≡ self.old.faults) }
         ensures later { self.old.faults ≤ self.new.faults }
     {
         self.calls = self.calls.saturating_add(1);
@@ -104,14 +118,18 @@ impl Sink for MemSink {
         Ok(count)
     }
 
-    /// Does nothing, and never fails.
+    /// Notes that all that was taken is flushed. It never fails.
     fn flush(&mut self) -> Result<(), Failed>
         ensures answer { result ≡ Ok tt }
-        ensures next { self.new ≡ self.old }
+        ensures next { self.new ≡ record self.old { flushed = length self.old.taken } }
         ensures bytes { Keeps (Some self.old.taken) (Some self.new.taken) }
+        ensures flushed { OnOk result (Some self.new.flushed ≡ Some (length self.new.taken)) }
+        ensures held { OnErr result (Some self.new.flushed ≡ Some self.old.flushed) }
         ensures fault { OnErr result (Rose self.old.faults self.new.faults) }
+        ensures calm { OnOk result (self.new.faults ≡ self.old.faults) }
         ensures later { self.old.faults ≤ self.new.faults }
     {
+        self.flushed = self.bytes.len();
         Ok(())
     }
 }

@@ -1,5 +1,5 @@
 // A source in memory that gives pieces and fails where it is told to.
-ghost use Rattle.std.specs.Prelude.{◌≡◌, ℕ, List, Some, ◌<◌, ◌≤◌, length, IfOk, OnErr};
+ghost use Rattle.std.specs.Prelude.{◌≡◌, ℕ, List, Some, ◌<◌, ◌≤◌, length, IfOk, OnOk, OnErr};
 ghost use Rattle.std.specs.Io.KnownBytes.{ReadConsumes};
 ghost use Rattle.gds_causes.specs.Faults.{Rose};
 ghost use Rattle.gds_causes.specs.MemSource.{read_answer, buffer_after_read, source_after_read};
@@ -78,6 +78,7 @@ impl Source for MemSource {
         ensures bound { IfOk result (λ n. n ≤ length into.new) }
         ensures bytes { ReadConsumes (Some self.old.remaining) (Some self.new.remaining) result into.new }
         ensures fault { OnErr result (Rose self.old.faults self.new.faults) }
+        ensures calm { OnOk result (self.new.faults ≡ self.old.faults) }
         ensures later { self.old.faults ≤ self.new.faults }
     {
         self.calls = self.calls.saturating_add(1);
