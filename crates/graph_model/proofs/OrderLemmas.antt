@@ -21,13 +21,13 @@ compare = slice_cmp nat_cmp
 before_trans : (a b c : List ℕ) → IsBefore a b → IsBefore b c → IsBefore a c
 before_trans a b c = nat_list_cmp_total.trans a b c
 
-both_equal : (a b : Ordering) → ordering_then a b ≡ Equal → (a ≡ Equal) × (b ≡ Equal)
+pub both_equal : (a b : Ordering) → ordering_then a b ≡ Equal → (a ≡ Equal) × (b ≡ Equal)
 both_equal Less b h = absurd cc
 both_equal Equal b h = (refl, h)
 both_equal Greater b h = absurd cc
 
 -- texts that compare alike are one
-exact : (a b : List ℕ) → compare a b ≡ Equal → a ≡ b
+pub exact : (a b : List ℕ) → compare a b ≡ Equal → a ≡ b
 exact [] [] h = refl
 exact [] (y ∷ ys) h = absurd cc
 exact (x ∷ xs) [] h = absurd cc

@@ -5,9 +5,12 @@ pub mod Change
 pub mod ChangeLaws
 pub mod Degrees
 pub mod Graph
+pub mod Kept
+pub mod KeptLaws
 pub mod Known
 pub mod Lists
 pub mod Names
+pub mod Neighbours
 pub mod Projection
 pub mod Refusals
 pub mod SmallStore

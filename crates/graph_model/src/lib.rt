@@ -3,18 +3,18 @@
 
 mod change;
 mod graph;
+mod kept;
 pub mod laws;
 mod list;
 mod memory;
 mod name;
 mod refusal;
 mod shared;
-#[cfg(test)]
-mod tests;
 mod text;
 
 pub use change::{Change, ChangeReply, NewNode, NewRel, Place};
 pub use graph::{Choice, Column, Node, Orientation, Prop, PropertyGraph, Rel};
+pub use kept::{ImportNote, Kept};
 pub use list::List;
 pub use memory::{Mem, TryClone};
 pub use name::{Name, Tag};

@@ -185,6 +185,18 @@ pub enum Refusal {
         counter: Counter,
         last: u64,
     },
+    /// The caller asks about another user and isn't the administrator.
+    NotAdmin {
+        username: Tag,
+    },
+    /// The type is undirected already.
+    AlreadyUndirected {
+        rel_type: Name,
+    },
+    /// The named graph has this type.
+    TypeExists {
+        rel_type: Name,
+    },
 }
 
 impl From<Mem> for Refusal {
