@@ -109,6 +109,9 @@ refusal_number (why.TooManyJobs limit) = 27
 refusal_number (why.StoreFault batches) = 28
 refusal_number why.Mem = 29
 refusal_number (why.CounterSpent counter last) = 30
+refusal_number (why.NotAdmin username) = 31
+refusal_number (why.AlreadyUndirected rel_type) = 32
+refusal_number (why.TypeExists rel_type) = 33
 
 -- the code of a refusal
 abbrev pub refusal_code : Refusal → List ℕ
@@ -142,6 +145,9 @@ refusal_code (why.TooManyJobs limit) = codes "TooManyJobs"
 refusal_code (why.StoreFault batches) = codes "StoreFault"
 refusal_code why.Mem = codes "Mem"
 refusal_code (why.CounterSpent counter last) = codes "CounterSpent"
+refusal_code (why.NotAdmin username) = codes "NotAdmin"
+refusal_code (why.AlreadyUndirected rel_type) = codes "AlreadyUndirected"
+refusal_code (why.TypeExists rel_type) = codes "TypeExists"
 
 -- what is told of a refusal behind its number and its code
 abbrev pub refusal_fields : Refusal → List ℕ
@@ -179,6 +185,9 @@ refusal_fields (why.TooManyJobs limit) = number_field (codes "limit") limit
 refusal_fields (why.StoreFault batches) = number_field (codes "batches") batches
 refusal_fields why.Mem = []
 refusal_fields (why.CounterSpent counter last) = text_field (codes "counter") (counter_word counter) ++ number_field (codes "last") last
+refusal_fields (why.NotAdmin username) = text_field (codes "username") username
+refusal_fields (why.AlreadyUndirected rel_type) = text_field (codes "type") rel_type
+refusal_fields (why.TypeExists rel_type) = text_field (codes "type") rel_type
 
 -- the number, the code and the fields of a refusal
 unfoldable pub refusal_body : Refusal → List ℕ

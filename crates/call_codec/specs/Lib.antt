@@ -6,4 +6,5 @@ pub mod Elements
 pub mod Calls
 pub mod Lines
 pub mod LineLaws
+pub mod Statuses
 pub mod WorkedRows

@@ -22,9 +22,9 @@ mod objects;
 mod procedure;
 mod refused;
 mod single;
-#[cfg(test)]
-mod tests;
+mod status;
 mod words;
 
 pub use answer::answer_text;
 pub use line::{is_blank, line_call};
+pub use status::status_of;

@@ -40,6 +40,9 @@ fn refusal_number(why: &Refusal) -> u64
         Refusal::StoreFault { .. } => 28,
         Refusal::Mem => 29,
         Refusal::CounterSpent { .. } => 30,
+        Refusal::NotAdmin { .. } => 31,
+        Refusal::AlreadyUndirected { .. } => 32,
+        Refusal::TypeExists { .. } => 33,
     }
 }
 
@@ -77,6 +80,9 @@ fn refusal_code(why: &Refusal) -> &'static str
         Refusal::StoreFault { .. } => "StoreFault",
         Refusal::Mem => "Mem",
         Refusal::CounterSpent { .. } => "CounterSpent",
+        Refusal::NotAdmin { .. } => "NotAdmin",
+        Refusal::AlreadyUndirected { .. } => "AlreadyUndirected",
+        Refusal::TypeExists { .. } => "TypeExists",
     }
 }
 
@@ -105,7 +111,9 @@ fn put_refusal_fields(text: &mut Vec<u8>, why: &Refusal) -> Result<(), Mem>
         Refusal::NoSuchLabel { label } => put_text_field(text, "label", label.bytes()),
         Refusal::NoSuchType { rel_type }
         | Refusal::MixedAggregation { rel_type }
-        | Refusal::NotUndirected { rel_type } => put_text_field(text, "type", rel_type.bytes()),
+        | Refusal::NotUndirected { rel_type }
+        | Refusal::AlreadyUndirected { rel_type }
+        | Refusal::TypeExists { rel_type } => put_text_field(text, "type", rel_type.bytes()),
         Refusal::NoSuchProperty { key } | Refusal::PropertyExists { key } => {
             put_text_field(text, "key", key.bytes())
         }
@@ -168,6 +176,7 @@ fn put_refusal_fields(text: &mut Vec<u8>, why: &Refusal) -> Result<(), Mem>
             put_text_field(text, "counter", counter_word(*counter).as_bytes())?;
             put_number_field(text, "last", *last)
         }
+        Refusal::NotAdmin { username } => put_text_field(text, "username", username.bytes()),
     }
 }
 

@@ -1,3 +1,4 @@
 pub mod RowLemmas
 pub mod KeptRows
 pub mod GraphSteps
+pub mod ToldLemmas

@@ -34,3 +34,13 @@ IsCause why refused = refused ≡ Some why
 abbrev pub keep_refusal : KeepRefusal → Refusal
 keep_refusal keep.Fault = StoreFault 0
 keep_refusal keep.Mem = Mem
+
+-- a refusal is a fault of the store, or else this holds
+abbrev pub UnlessFaultIn : Refusal → Type 0 → Type 0
+UnlessFaultIn (StoreFault batches) P = Unit {0}
+UnlessFaultIn why P = P
+
+-- what a change is answered with is a fault of the store, or else this holds
+abbrev pub UnlessStoreFault : Result ChangeReply Refusal → Type 0 → Type 0
+UnlessStoreFault (Ok answer) P = P
+UnlessStoreFault (Err why) P = UnlessFaultIn why P

@@ -1,16 +1,17 @@
 // Changes whose answers are kept under import ids.
-ghost use Rattle.std.specs.Prelude.{◌≡◌, ◌≤◌, Some, None, Ok, Err, IfOk, IfErr, OnOk, OnErr};
+ghost use Rattle.std.specs.Prelude.{◌≡◌, ◌<◌, ◌≤◌, length, Some, None, Err, IfOk, IfErr, OnOk, OnErr};
 ghost use Rattle.gds_causes.specs.Faults.{Rose};
 ghost use Rattle.graph_model.specs.Change.{IsWellFormedChange, after_change, refused_change, change_answer};
-ghost use Rattle.store_keeper.specs.Keeping.{IsTold};
+ghost use Rattle.graph_model.specs.Kept.{most_imports};
 ghost use Rattle.desk_model.specs.Step.{kept_answer, with_answer, IsStep};
 ghost use Rattle.user_lists.specs.Users.{lists_of, OthersStay};
-ghost use Rattle.desk_core.specs.Answered.{IsCause, change_reply};
+ghost use Rattle.desk_core.specs.Answered.{IsCause, UnlessStoreFault, change_reply};
+ghost use Rattle.desk_core.specs.Fields.{IsDeskOf};
 
 use crate::changing::keep_and_make;
 use crate::replies::not_kept;
 use desk_model::Event;
-use graph_model::{Change, ChangeReply, Counter, Refusal, Tag};
+use graph_model::{Change, ChangeReply, Counter, ImportNote, Mem, Refusal, Tag, TryClone};
 use graph_store::Store;
 use std::alloc::Global;
 use store_keeper::Keeper;
@@ -18,6 +19,17 @@ use user_lists::Users;
 use user_lists::laws::forgetting_undoes_keeping;
 
 const MOST_IMPORTS: usize = 65_536;
+
+/// The note of an answer that is kept for a user under an import id.
+fn note_of(user: &Tag, id: &Tag, answer: ChangeReply) -> Result<ImportNote, Mem>
+    ensures { IfOk result (λ note. note ≡ record { user = user.now; id = id.now; answer = answer }) }
+{
+    Ok(ImportNote {
+        user: user.try_clone()?,
+        id: id.try_clone()?,
+        answer,
+    })
+}
 
 /// Makes a change under an import id under which no answer is kept. The answer is kept first, since that takes memory, and
 /// forgotten again where the keeper fails.
@@ -31,8 +43,9 @@ fn make_import<K: Keeper>(
     change: &Change,
 ) -> Result<ChangeReply, Refusal>
     requires formed { IsWellFormedChange change.now }
-    requires told { IsTold (K.graph keeper.old) store.old }
+    requires told { IsDeskOf (K.kept keeper.old) store.old users.old }
     requires new { kept_answer (Some id.now) (lists_of users.old user.now) ≡ None }
+    requires room { length (lists_of users.old user.now).imports < most_imports }
     ensures ok { IfOk result (λ answer. answer ≡ change_answer store.old change.now) }
     ensures made { OnOk result (store.new ≡ after_change store.old change.now) }
     ensures kept { OnOk result (lists_of users.new user.now ≡ with_answer (Some id.now) (change_answer store.old change.now) (lists_of users.old user.now)) }
@@ -41,9 +54,10 @@ fn make_import<K: Keeper>(
     ensures err_lists { OnErr result (lists_of users.new user.now ≡ lists_of users.old user.now) }
     ensures refused { IfErr result (λ why. IsCause why (refused_change store.old change.now)) }
     ensures others { OthersStay user.now users.old users.new }
-    ensures told { IsTold (K.graph keeper.new) store.new }
+    ensures told { IsDeskOf (K.kept keeper.new) store.new users.new }
     ensures path { K.path keeper.new ≡ K.path keeper.old }
     ensures fault { result ≡ Err (Refusal.StoreFault 0) → Rose (K.faults keeper.old) (K.faults keeper.new) }
+    ensures calm { UnlessStoreFault result (K.faults keeper.new ≡ K.faults keeper.old) }
     ensures later { K.faults keeper.old ≤ K.faults keeper.new }
 {
     forgetting_undoes_keeping();
@@ -52,10 +66,13 @@ fn make_import<K: Keeper>(
         Err(why) => return Err(why),
     };
     let answer = made.answer();
+    let Ok(note) = note_of(user, id, answer) else {
+        return Err(Refusal::Mem);
+    };
     if users.keep_answer(alloc, user, id, answer).is_err() {
         return Err(Refusal::Mem);
     }
-    match keep_and_make(keeper, store, alloc, change, made) {
+    match keep_and_make(keeper, store, alloc, change, Some(&note), made) {
         Ok(()) => Ok(answer),
         Err(why) => {
             users.forget_answer(alloc, user, id);
@@ -79,15 +96,16 @@ pub(crate) fn import_change<K: Keeper>(
     change: &Change,
 ) -> Result<ChangeReply, Refusal>
     requires formed { IsWellFormedChange change.now }
-    requires told { IsTold (K.graph keeper.old) store.old }
+    requires told { IsDeskOf (K.kept keeper.old) store.old users.old }
     ensures step { IsStep (Event.Change (Some id.now) change.now)
         (record { graph = store.old; lists = lists_of users.old user.now })
         (change_reply result)
         (record { graph = store.new; lists = lists_of users.new user.now }) }
     ensures others { OthersStay user.now users.old users.new }
-    ensures told { IsTold (K.graph keeper.new) store.new }
+    ensures told { IsDeskOf (K.kept keeper.new) store.new users.new }
     ensures path { K.path keeper.new ≡ K.path keeper.old }
     ensures fault { result ≡ Err (Refusal.StoreFault 0) → Rose (K.faults keeper.old) (K.faults keeper.new) }
+    ensures calm { UnlessStoreFault result (K.faults keeper.new ≡ K.faults keeper.old) }
     ensures later { K.faults keeper.old ≤ K.faults keeper.new }
 {
     if let Some(answer) = users.kept_answer(user, id) {

@@ -11,8 +11,6 @@ mod desk;
 mod importing;
 mod replies;
 mod rows;
-#[cfg(test)]
-mod tests;
 
 pub use desk::Desk;
 pub use desk_model::{Asked, Call, Event, GraphLine, JobKind, JobLine, Reply};

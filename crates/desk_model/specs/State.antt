@@ -5,6 +5,7 @@
 --   UserLists               what is kept for a user
 --   Part                    the part of a user in a state: the graph, and the user's lists
 --   State                   one graph, and for each user their lists
+--   loaded_state kept       the state of a machine that begins with what is kept
 --   part_of state user      the part of a user
 --   with_part state user p  a state with another part for a user
 --   SameState               two states with the same graph and the same lists for each user
@@ -12,6 +13,9 @@ use Rattle.std.specs.Prelude.{◌≡◌, ℕ, ℤ, Bool, if◌then◌else◌, Li
 use Rattle.std.specs.Str.{bytes_eq}
 use Rattle.graph_model.specs.declared.graph.PropertyGraph.{PropertyGraph}
 use Rattle.graph_model.specs.declared.change.ChangeReply.{ChangeReply}
+use Rattle.graph_model.specs.declared.kept.ImportNote.{ImportNote}
+use Rattle.graph_model.specs.declared.kept.Kept.{Kept}
+use Rattle.graph_model.specs.Kept.{answers_of}
 use Rattle.graph_model.specs.Projection.{PlainProjection}
 use Rattle.graph_making.specs.declared.capture.Captured.{Captured}
 use Rattle.graph_making.specs.declared.capture.MakeSpec.{MakeSpec}
@@ -52,6 +56,14 @@ pub record UserLists : Type 0 where
 abbrev pub no_lists : UserLists
 no_lists = record { graphs = []; jobs = []; imports = []; last_job = 0; last_version = 0 }
 
+-- the lists of a user of whom nothing is kept but the answers of imports among these notes
+abbrev pub loaded_lists : List ImportNote → List ℕ → UserLists
+loaded_lists notes user = record no_lists { imports = answers_of user notes }
+
+-- nothing is kept for a user but answers of imports
+abbrev pub IsNewUser : UserLists → Type 0
+IsNewUser lists = lists ≡ record no_lists { imports = lists.imports }
+
 -- the part of a user: the graph, and the user's lists
 pub record Part : Type 0 where
   pub graph : PropertyGraph
@@ -61,6 +73,10 @@ pub record Part : Type 0 where
 pub record State : Type 0 where
   pub graph : PropertyGraph
   pub lists : List ℕ → UserLists
+
+-- the state of a machine that begins with what is kept: its graph, and each user's answers of imports
+abbrev pub loaded_state : Kept → State
+loaded_state kept = record { graph = kept.graph; lists = loaded_lists kept.imports }
 
 -- the part of a user
 abbrev pub part_of : State → List ℕ → Part

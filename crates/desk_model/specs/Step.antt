@@ -14,10 +14,6 @@
 --   IsStep event old r new    one part, a reply and another part are a step, with the mark that the reply shows
 use Rattle.std.specs.Prelude.{◌≡◌, ℕ, ℤ, nat_lt, ◌==◌, Bool, true, false, not, if◌then◌else◌, IsTrue, List, [], ◌∷◌, length, codes, Option, Some, None, IsSome, Result, Ok, Err}
 use Rattle.std.specs.Str.{bytes_eq}
-use Rattle.std.specs.Ordering.{nat_cmp}
-use Rattle.std.specs.Cmp.Lexicographic.{slice_cmp}
-use Rattle.std.specs.declared.cmp.Ordering.{Ordering}
-use Rattle.std.specs.declared.cmp.Ordering.TheVariants.{Less, Equal, Greater}
 use Rattle.std.specs.Option.{option_map, option_and_then, is_some}
 use Rattle.std.specs.List.{list_any, filter_map, starts_with}
 use Rattle.graph_model.specs.declared.graph.Node.{Node}
@@ -31,7 +27,8 @@ use Rattle.graph_model.specs.declared.refusal.Refusal.{Refusal}
 use Rattle.graph_model.specs.declared.refusal.Refusal.TheVariants.{CounterSpent, StoreFault, Mem}
 use Rattle.graph_model.specs.declared.refusal.Counter.TheVariants.{Imports}
 use Rattle.graph_model.specs.Change.{after_change, refused_change, change_answer, IsWellFormedChange}
-use Rattle.graph_model.specs.Lists.{first_there}
+use Rattle.graph_model.specs.Kept.{most_imports, entry_order}
+use Rattle.graph_model.specs.Lists.{first_there, placed}
 use Rattle.graph_model.specs.Projection.{PlainProjection, is_among, under}
 use Rattle.user_catalog.specs.Catalog.{name_taken, graphs_spent}
 use Rattle.graph_making.specs.declared.capture.Captured.{Captured}
@@ -62,10 +59,6 @@ pub record Outcome : Type 0 where
 
 -- ---- changes
 
--- the most import answers that are kept for a user
-abbrev pub most_imports : ℕ
-most_imports = 65536
-
 -- the answer that is kept under an import id, where one is given
 abbrev pub kept_answer : Option (List ℕ) → UserLists → Option ChangeReply
 kept_answer None lists = None
@@ -76,21 +69,10 @@ abbrev pub imports_spent : Option (List ℕ) → UserLists → Option Refusal
 imports_spent None lists = None
 imports_spent (Some id) lists = if nat_lt (length lists.imports) most_imports then None else Some (CounterSpent Imports most_imports)
 
--- an answer put at its id, which compares like this with the first id: before it, in its place, or behind it
-abbrev pub place_answer : Ordering → List ℕ × ChangeReply → List ℕ × ChangeReply → List (List ℕ × ChangeReply) → List (List ℕ × ChangeReply) → List (List ℕ × ChangeReply)
-place_answer Less new first rest placed = new ∷ first ∷ rest
-place_answer Equal new first rest placed = (first.0, new.1) ∷ rest
-place_answer Greater new first rest placed = first ∷ placed
-
--- answers by ascending import id, with one more
-abbrev pub put_answer : List ℕ → ChangeReply → List (List ℕ × ChangeReply) → List (List ℕ × ChangeReply)
-put_answer id answer [] = (id, answer) ∷ []
-put_answer id answer (first ∷ rest) = place_answer (slice_cmp nat_cmp id first.0) (id, answer) first rest (put_answer id answer rest)
-
 -- the lists with an answer kept under an import id, where one is given
 abbrev pub with_answer : Option (List ℕ) → ChangeReply → UserLists → UserLists
 with_answer None answer lists = lists
-with_answer (Some id) answer lists = record lists { imports = put_answer id answer lists.imports }
+with_answer (Some id) answer lists = record lists { imports = placed entry_order (id, answer) lists.imports }
 
 -- a change that isn't kept yet, made
 abbrev pub changed : Option (List ℕ) → model.Change → Part → Outcome

@@ -43,6 +43,19 @@ fn delete(alloc: Global, id: &str) -> Result<Change, Fail>
     Ok(Change::DeleteNodes { ids })
 }
 
+// Both values of a word, of node 0 under `d`, one after the other.
+fn set(alloc: Global, word: &str) -> Result<Change, Fail>
+    ensures { IfOk result IsWellFormedChange }
+{
+    let (first, second) = word.split_once(",").ok_or("two values")?;
+    let first = first.parse::<i64>()?;
+    let second = second.parse::<i64>()?;
+    Ok(Change::SetNodes {
+        key: name(alloc, "d")?,
+        values: List::from_vec(Vec::from_array(alloc, [(0, first), (0, second)])?),
+    })
+}
+
 // The values under `d` of the nodes of a graph.
 fn rows(alloc: Global, graph: &str) -> Result<Event, Fail>
     ensures { IfOk result IsSimple }
@@ -68,6 +81,14 @@ pub(crate) fn event_of(alloc: Global, verb: &str, word: &str) -> Result<Event, F
         "delete" => Ok(Event::Change {
             import: None,
             change: delete(alloc, word)?,
+        }),
+        "set" => Ok(Event::Change {
+            import: Some(tag(alloc, "s")?),
+            change: set(alloc, word)?,
+        }),
+        "stored" => Ok(Event::StoreRows {
+            key: name(alloc, word)?,
+            labels: Choice::All,
         }),
         "rows" => rows(alloc, word),
         "list" => Ok(Event::List { graph: None }),

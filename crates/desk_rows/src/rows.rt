@@ -6,7 +6,7 @@ use crate::asking::{ask, asked_of};
 use crate::making::{begin_job, make_graph};
 use call_codec::answer_text;
 use desk_core::{Desk, Reply};
-use graph_model::{List, PropertyGraph};
+use graph_model::Kept;
 use std::alloc::Global;
 use std::process::Abort;
 use std::test::Fail;
@@ -71,17 +71,23 @@ const FULL: &str = r#"ann project g65 => {"refused":{"number":26,"code":"TooMany
 ann exists g65 => {"ok":{"graphName":"g65","exists":false}}
 bob project g65 => {"ok":{"graphName":"g65","nodeCount":1,"relationshipCount":0,"version":1,"jobId":"job-1"}}"#;
 
-// A desk over nothing.
-fn new_desk(alloc: Global) -> Result<Desk<MemKeeper>, Fail>
+// A value is set under an import id, which the keeper fails to keep; it is sent again, and once more with other values.
+const IMPORTS: &str = r#"ann make 1 => {"ok":{"firstNode":0,"nodes":1,"firstRelationship":0,"relationships":0}}
+ann set 5,6 => {"refused":{"number":28,"code":"StoreFault","batches":0}}
+ann stored d => {"ok":{"rows":[{"nodeId":0,"value":1}]}}
+ann set 5,6 => {"ok":{"set":2}}
+ann stored d => {"ok":{"rows":[{"nodeId":0,"value":6}]}}
+ann set 7,8 => {"ok":{"set":2}}
+ann stored d => {"ok":{"rows":[{"nodeId":0,"value":6}]}}
+bob set 7,8 => {"ok":{"set":2}}
+ann stored d => {"ok":{"rows":[{"nodeId":0,"value":8}]}}"#;
+
+// A desk over nothing, whose keeper fails at commits of these numbers.
+fn new_desk(alloc: Global, fails: &[u64]) -> Result<Desk<MemKeeper>, Fail>
     ensures { IfOk result AllIdle }
 {
-    let nothing = PropertyGraph {
-        nodes: List::new(alloc),
-        rels: List::new(alloc),
-        next_node: 0,
-        next_rel: 0,
-    };
-    match Desk::start(alloc, MemKeeper::new(nothing, Vec::new(alloc))) {
+    let keeper = MemKeeper::new(Kept::new(alloc), Vec::from_slice(alloc, fails)?);
+    match Desk::start(alloc, keeper) {
         Ok(desk) => Ok(desk),
         Err(_) => Err("no desk".into()),
     }
@@ -214,7 +220,7 @@ fn rows_of_65_graphs(alloc: Global) -> Result<String, Fail> {
 #[test]
 fn graphs_are_made_and_dropped(rt: HostRuntime) -> Result<(), Fail> {
     let alloc = rt.alloc();
-    let mut desk = new_desk(alloc)?;
+    let mut desk = new_desk(alloc, &[])?;
     run_rows(&rt, &mut desk, alloc, ROWS)
 }
 
@@ -222,13 +228,20 @@ fn graphs_are_made_and_dropped(rt: HostRuntime) -> Result<(), Fail> {
 fn user_has_at_most_64_graphs(rt: HostRuntime) -> Result<(), Fail> {
     let alloc = rt.alloc();
     let rows = rows_of_65_graphs(alloc)?;
-    let mut desk = new_desk(alloc)?;
+    let mut desk = new_desk(alloc, &[])?;
     run_rows(&rt, &mut desk, alloc, rows.as_str())
 }
 
 #[test]
 fn user_has_at_most_16_jobs(rt: HostRuntime) -> Result<(), Fail> {
     let alloc = rt.alloc();
-    let mut desk = new_desk(alloc)?;
+    let mut desk = new_desk(alloc, &[])?;
     run_rows_among_jobs(&rt, &mut desk, alloc, JOBS)
+}
+
+#[test]
+fn import_is_sent_again(rt: HostRuntime) -> Result<(), Fail> {
+    let alloc = rt.alloc();
+    let mut desk = new_desk(alloc, &[2])?;
+    run_rows(&rt, &mut desk, alloc, IMPORTS)
 }

@@ -1,19 +1,22 @@
 -- Answers by import id, as an ordered map has them.
-use Rattle.std.proofs.Common.{◌≡◌, ℕ, true, false, cond, List, [], ◌∷◌, Some, None, refl, sym, ap, ◌∙◌, ⊎_elim}
+use Rattle.std.proofs.Common.{◌≡◌, ℕ, Bool, true, false, cond, not, List, [], ◌∷◌, ◌++◌, Some, None, refl, sym, ap, ◌∙◌, ⊎_elim}
 use Rattle.std.specs.Str.{bytes_eq}
-use Rattle.std.specs.Ordering.{nat_cmp, is_eq, match_ordering}
+use Rattle.std.specs.List.{AllByRecursion, filter}
+use Rattle.std.specs.Ordering.{nat_cmp, is_eq}
 use Rattle.std.specs.Cmp.Lexicographic.{slice_cmp, bytes_decides}
-use Rattle.std.specs.declared.cmp.Ordering.{Ordering}
-use Rattle.std.specs.declared.cmp.Ordering.TheVariants.{Less, Equal, Greater}
+use Rattle.std.specs.declared.cmp.Ordering.TheVariants.{Less}
 use Rattle.std.proofs.lemmas.Bool.{cases_Bool, false_from_ne_true, true≢false}
 use Rattle.std.proofs.lemmas.Map.Text.{is_eq-slice_cmp}
 use Rattle.std.specs.Map.{lookup, remove_entry}
-use Rattle.std.specs.BTreeMap.{insert_entry}
+use Rattle.std.proofs.lemmas.List.Elements.{filter-append}
 use Rattle.graph_model.specs.declared.change.ChangeReply.{ChangeReply}
+use Rattle.graph_model.specs.Kept.{entry_order}
+use Rattle.graph_model.specs.Lists.{placed}
 use Rattle.graph_model.specs.Projection.{under}
+use Rattle.graph_model.proofs.KeptLemmas.{entry_order_total}
+use Rattle.graph_model.proofs.Placed.{is_before, is_behind, is_other, split}
 use Rattle.desk_model.specs.State.{UserLists, no_lists}
-use Rattle.desk_model.specs.Step.{place_answer, put_answer}
-use Rattle.user_lists.specs.Imports.{without_answer}
+use Rattle.user_lists.specs.Imports.{AnswersAscend, without_answer}
 
 -- the lists of a user of whom these answers are kept, and nothing else
 abbrev pub of_entries : List (List ℕ × ChangeReply) → UserLists
@@ -40,28 +43,34 @@ lookup-under id (entry ∷ entries) =
     ap (λ b. cond b (Some entry.1) (lookup (λ other. is_eq (slice_cmp nat_cmp id other)) entries)) (same_id id entry.0)
     ∙ ap (λ rest. cond (bytes_eq entry.0 id) (Some entry.1) rest) (lookup-under id entries)
 
-pub insert-put : (id : List ℕ) (answer : ChangeReply) (entries : List (List ℕ × ChangeReply)) → insert_entry (slice_cmp nat_cmp) entries id answer ≡ put_answer id answer entries
-insert-put id answer [] = refl
-insert-put id answer (entry ∷ entries) =
-    elim (slice_cmp nat_cmp id entry.0) as (λ o. match_ordering o ((id, answer) ∷ entry ∷ entries) ((entry.0, answer) ∷ entries) (entry ∷ insert_entry (slice_cmp nat_cmp) entries id answer)
-    ≡ place_answer o (id, answer) entry entries (put_answer id answer entries))
-    [ Less ↦ refl | Equal ↦ refl | Greater ↦ ap (λ rest. entry ∷ rest) (insert-put id answer entries) ]
+-- ---- forgetting
 
-pub remove-without : (id : List ℕ) (entries : List (List ℕ × ChangeReply)) → remove_entry (λ other. is_eq (slice_cmp nat_cmp id other)) entries ≡ without_answer id entries
-remove-without id [] = refl
-remove-without id (entry ∷ entries) =
-    ap (λ b. cond b entries (entry ∷ remove_entry (λ other. is_eq (slice_cmp nat_cmp id other)) entries)) (same_id id entry.0)
-    ∙ ap (λ rest. cond (bytes_eq entry.0 id) entries (entry ∷ rest)) (remove-without id entries)
+-- answers stay where none of their ids is the one that is forgotten
+nothing_goes : (id : List ℕ) (es : List (List ℕ × ChangeReply)) → AllByRecursion (λ e. bytes_eq e.0 id ≡ false) es → without_answer id es ≡ es
+nothing_goes id [] all = refl
+nothing_goes id (e ∷ es) all = rw all.0 (ap (λ (rest : List (List ℕ × ChangeReply)). e ∷ rest) (nothing_goes id es all.1))
+
+-- ids behind an id are others
+behind_differ : (id : List ℕ) (e : List ℕ × ChangeReply) (es : List (List ℕ × ChangeReply)) → e.0 ≡ id → AllByRecursion (λ f. entry_order e f ≡ Less) es → AllByRecursion (λ f. bytes_eq f.0 id ≡ false) es
+behind_differ id e [] same all = tt
+behind_differ id e (f ∷ es) same all =
+    (sym (same_id id f.0) ∙ ap (λ (text : List ℕ). is_eq (slice_cmp nat_cmp text f.0)) (sym same) ∙ ap is_eq all.0, behind_differ id e es same all.1)
+
+-- an ordered map forgets the answer under an id
+pub remove-without : (id : List ℕ) (es : List (List ℕ × ChangeReply)) → AnswersAscend es → remove_entry (λ other. is_eq (slice_cmp nat_cmp id other)) es ≡ without_answer id es
+remove-without id [] pairs = refl
+remove-without id (e ∷ es) pairs =
+    ⊎_elim
+    (λ (same : bytes_eq e.0 id ≡ true).
+    rw (same_id id e.0 ∙ same, same) (sym (nothing_goes id es (behind_differ id e es ((bytes_decides e.0 id).0 same) pairs.0))))
+    (λ (differs : bytes_eq e.0 id ≡ false).
+    rw (same_id id e.0 ∙ differs, differs) (ap (λ (rest : List (List ℕ × ChangeReply)). e ∷ rest) (remove-without id es pairs.1)))
+    (cases_Bool (bytes_eq e.0 id))
 
 -- ---- forgetting undoes keeping
 
 pub own_id : (id : List ℕ) → bytes_eq id id ≡ true
 own_id id = (bytes_decides id id).1 refl
-
-placed_back : (o : Ordering) (id : List ℕ) (answer : ChangeReply) (entry : List ℕ × ChangeReply) (entries placed : List (List ℕ × ChangeReply)) → is_eq o ≡ false → bytes_eq entry.0 id ≡ false → without_answer id placed ≡ entries → without_answer id (place_answer o (id, answer) entry entries placed) ≡ entry ∷ entries
-placed_back Less id answer entry entries placed unequal differs back = rw (own_id id) refl
-placed_back Equal id answer entry entries placed unequal differs back = absurd (true≢false unequal)
-placed_back Greater id answer entry entries placed unequal differs back = rw differs (ap (λ rest. entry ∷ rest) back)
 
 -- the first id is another where an id isn't there
 first_differs : (id : List ℕ) (entry : List ℕ × ChangeReply) (entries : List (List ℕ × ChangeReply)) → under id (entry ∷ entries) ≡ None → bytes_eq entry.0 id ≡ false
@@ -71,8 +80,26 @@ first_differs id entry entries absent =
 rest_absent : (id : List ℕ) (entry : List ℕ × ChangeReply) (entries : List (List ℕ × ChangeReply)) → under id (entry ∷ entries) ≡ None → under id entries ≡ None
 rest_absent id entry entries absent = rw (first_differs id entry entries absent) at absent
 
-pub forgotten : (id : List ℕ) (answer : ChangeReply) (entries : List (List ℕ × ChangeReply)) → under id entries ≡ None → without_answer id (put_answer id answer entries) ≡ entries
-forgotten id answer [] absent = rw (own_id id) refl
-forgotten id answer (entry ∷ entries) absent =
-    let differs = first_differs id entry entries absent in
-    placed_back (slice_cmp nat_cmp id entry.0) id answer entry entries (put_answer id answer entries) (same_id id entry.0 ∙ differs) differs (forgotten id answer entries (rest_absent id entry entries absent))
+-- where an id isn't there, each id is another
+absent_everywhere : (id : List ℕ) (es : List (List ℕ × ChangeReply)) → under id es ≡ None → AllByRecursion (λ e. bytes_eq e.0 id ≡ false) es
+absent_everywhere id [] absent = tt
+absent_everywhere id (e ∷ es) absent = (first_differs id e es absent, absent_everywhere id es (rest_absent id e es absent))
+
+-- answers that aren't the same as one are those without its id
+others_without : (id : List ℕ) (answer : ChangeReply) (es : List (List ℕ × ChangeReply)) → filter (is_other entry_order entry_order_total (id, answer)) es ≡ without_answer id es
+others_without id answer [] = refl
+others_without id answer (e ∷ es) =
+    let test : is_other entry_order entry_order_total (id, answer) e ≡ not (bytes_eq e.0 id) = ap not (is_eq-slice_cmp e.0 id) in
+    ap (λ (b : Bool). cond b (e ∷ filter (is_other entry_order entry_order_total (id, answer)) es) (filter (is_other entry_order entry_order_total (id, answer)) es)) test
+    ∙ ap (λ (rest : List (List ℕ × ChangeReply)). cond (not (bytes_eq e.0 id)) (e ∷ rest) rest) (others_without id answer es)
+
+pub forgotten : (id : List ℕ) (answer : ChangeReply) (es : List (List ℕ × ChangeReply)) → AnswersAscend es → under id es ≡ None → without_answer id (placed entry_order (id, answer) es) ≡ es
+forgotten id answer es pairs absent =
+    let front = filter (is_before entry_order entry_order_total (id, answer)) es in
+    let back = filter (is_behind entry_order entry_order_total (id, answer)) es in
+    let stays = nothing_goes id es (absent_everywhere id es absent) in
+    filter-append (λ e. not (bytes_eq e.0 id)) front ((id, answer) ∷ back)
+    ∙ ap (λ (rest : List (List ℕ × ChangeReply)). without_answer id front ++ rest) (rw (own_id id) refl)
+    ∙ sym (filter-append (λ e. not (bytes_eq e.0 id)) front back)
+    ∙ ap (without_answer id) (split entry_order entry_order_total (id, answer) es pairs ∙ others_without id answer es ∙ stays)
+    ∙ stays

@@ -17,3 +17,7 @@ OthersStay user before after = (other : List ℕ) → other ≢ user → lists_o
 -- whatever the graph is, the lists of a user before, a reply and the lists after are a step
 abbrev pub IsUserStep : Event → List ℕ → List (List ℕ × UserLists) → PlainReply → List (List ℕ × UserLists) → Type 0
 IsUserStep event user before reply after = IsListStep event (lists_of before user) reply (lists_of after user)
+
+-- all users have the answers of imports that they had
+abbrev pub ImportsStay : List (List ℕ × UserLists) → List (List ℕ × UserLists) → Type 0
+ImportsStay before after = (user : List ℕ) → (lists_of after user).imports ≡ (lists_of before user).imports

@@ -15,8 +15,6 @@ mod job;
 pub mod laws;
 mod lists;
 mod stepping;
-#[cfg(test)]
-mod tests;
 mod users;
 
 pub use job::Job;

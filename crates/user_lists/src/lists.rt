@@ -3,7 +3,7 @@ ghost use Rattle.std.specs.Prelude.{◌≡◌, length, Some, OnOk, OnErr};
 ghost use Rattle.graph_model.specs.Projection.{under};
 ghost use Rattle.desk_model.specs.State.{no_lists};
 ghost use Rattle.desk_model.specs.Step.{with_answer};
-ghost use Rattle.user_lists.specs.Imports.{lists_without_answer};
+ghost use Rattle.user_lists.specs.Imports.{AnswersAscend, lists_without_answer};
 
 use crate::job::Job;
 use graph_model::{ChangeReply, Mem, Tag, TryClone};
@@ -24,11 +24,14 @@ pub struct UserLists {
 
 impl Model for UserLists {
     ghost use Rattle.desk_model.specs.State.{UserLists};
+    ghost use Rattle.user_lists.specs.Imports.{AnswersAscend};
     ghost use Rattle.user_lists.specs.Lists.{shown};
 
     ghost Value = { UserLists };
 
     ghost view = { λ lists. shown lists.graphs lists.jobs.items lists.imports.entries lists.last_job };
+
+    ghost invariant = { λ lists. AnswersAscend lists.imports.entries };
 }
 
 impl UserLists {
@@ -64,6 +67,7 @@ impl UserLists {
     /// `Mem` where there is no memory for it. Then the lists are as they were.
     pub fn keep_answer(&mut self, id: &Tag, answer: ChangeReply) -> Result<(), Mem>
         ensures ok { OnOk result (self.new ≡ with_answer (Some id.now) answer self.old) }
+        ensures ascend { OnOk result (AnswersAscend self.old.imports) }
         ensures err { OnErr result (self.new ≡ self.old) }
     {
         let id = id.try_clone()?;

@@ -1,0 +1,2 @@
+-- Lemmas on the notes of imports.
+pub mod NoteLemmas
