@@ -1,4 +1,7 @@
 -- What rounds keep.
-pub mod Turning
 pub mod Sums
 pub mod Rounding
+pub mod Marking
+pub mod Settling
+pub mod Spreading
+pub mod Frontiers

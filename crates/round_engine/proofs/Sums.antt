@@ -1,5 +1,5 @@
 -- The sum of a column falls where no value rises and one falls.
-use Rattle.std.proofs.Common.{◌≡◌, ℕ, zero, suc, ◌+◌, ◌<◌, ◌≤◌, List, [], ◌∷◌, length, sum, refl, arith}
+use Rattle.std.proofs.Common.{◌≡◌, ℕ, zero, suc, ◌+◌, ◌<◌, ◌≤◌, List, [], ◌∷◌, length, sum, arith}
 use Rattle.std.proofs.lemmas.List.Sums.{sum_by-cons}
 use Rattle.round_engine.specs.Columns.{value_at, NowhereGreater}
 
@@ -9,7 +9,7 @@ sum_cons x xs = sum_by-cons (λ y. y) x xs
 rest : (x y : ℕ) (now before : List ℕ) → NowhereGreater (x ∷ now) (y ∷ before) → NowhereGreater now before
 rest x y now before nowhere v in_range = nowhere (suc v) (omega arith)
 
-sum-nowhere_greater : (now before : List ℕ) → length now ≡ length before → NowhereGreater now before → sum now ≤ sum before
+pub sum-nowhere_greater : (now before : List ℕ) → length now ≡ length before → NowhereGreater now before → sum now ≤ sum before
 sum-nowhere_greater [] [] long nowhere = omega arith
 sum-nowhere_greater [] (y ∷ before) long nowhere = absurd (omega arith)
 sum-nowhere_greater (x ∷ now) [] long nowhere = absurd (omega arith)
