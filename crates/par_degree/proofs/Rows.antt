@@ -1,13 +1,13 @@
 -- Degrees and refused weights of a view, by its rows.
-use Rattle.std.proofs.Common.{◌≡◌, ℕ, ℤ, pos, ◌+◌, ◌<◌, ◌≤◌, Bool, true, false, if◌then◌else◌, List, [], map, length, take, get_or, slice_index, slice_index_or, slice_set, ◌∷◌, ◌++◌, Option, Some, None, unwrap_or, refl, sym, ap, ◌∙◌, subst, arith}
+use Rattle.std.proofs.Common.{◌≡◌, ℕ, ℤ, pos, ◌+◌, ◌-◌, ◌<◌, ◌≤◌, Bool, true, if◌then◌else◌, List, [], map, length, take, slice_index, slice_index_or, slice_set, ◌∷◌, ◌++◌, Option, Some, None, unwrap_or, sym, ap, ◌∙◌, subst, arith}
 use Rattle.std.specs.Option.{is_some}
 use Rattle.std.specs.List.{flat_map, range_with_len}
 use Rattle.std.specs.List.Sorted.{IsStrictlyIncreasing}
-use Rattle.std.proofs.lemmas.List.{take_more, take_more_set, length-map, get_or-map}
+use Rattle.std.proofs.lemmas.List.{append_assoc, take_more, take_more_set, length-map, get_or-map}
 use Rattle.graph_model.specs.declared.refusal.Refusal.{Refusal}
 use Rattle.graph_model.specs.declared.refusal.Refusal.TheVariants.{WeightOutOfRange}
 use Rattle.graph_model.specs.View.{ViewArc}
-use Rattle.graph_model.specs.Degrees.{degree_of, degrees, first_refused, sum_of, weight_in, weight_refusal}
+use Rattle.graph_model.specs.Degrees.{degree_of, first_refused, sum_of, weight_in, weight_refusal}
 use Rattle.csr_columns.specs.Rows.{row_at, row_in}
 use Rattle.csr_columns.specs.ViewParts.{ViewColumns, HasWeightsBeside, plain_view_of, row_arcs, view_row}
 use Rattle.csr_columns.proofs.ViewRows.{arcs-view_rows, arcs_from-row}
@@ -96,11 +96,15 @@ module _ (view : ViewColumns) (beside : HasWeightsBeside view) where
         → pos (length (row_at view.arcs.rows v)) ≡ degree_of (plain_view_of view) (slice_index view.ids v)
     degree-bare v in_range is = sym (degree-by-row v in_range ∙ count-of-row view.ids view.arcs.rows view.weights v is)
 
--- one more value in its place
-pub one-more : (degree : ℕ → ℤ) (ids : List ℕ) (values : List ℤ) (v : ℕ) (value : ℤ) → v < length ids → length values ≡ length ids
-    → take v values ≡ take v (map degree ids) → value ≡ degree (slice_index ids v) → take (v + 1) (slice_set values v value) ≡ take (v + 1) (map degree ids)
-one-more degree ids values v value in_range long before is =
-    take_more_set values v value (omega (arith, in_range, long))
-    ∙ ap (λ (xs : List ℤ). xs ++ value ∷ []) before
-    ∙ ap (λ (x : ℤ). take v (map degree ids) ++ x ∷ []) (is ∙ sym (get_or-map degree ids v 0 (pos 0) in_range))
-    ∙ sym (take_more (map degree ids) v (pos 0) (omega (arith, in_range, length-map ids degree)))
+-- one more value behind those that stand before a step
+pub step-more : (degree : ℕ → ℤ) (ids : List ℕ) (step : List ℤ) (from v : ℕ) (value : ℤ) → from ≤ v → v < length ids → v - from < length step
+    → take from (map degree ids) ++ take (v - from) step ≡ take v (map degree ids) → value ≡ degree (slice_index ids v)
+    → take from (map degree ids) ++ take (v + 1 - from) (slice_set step (v - from) value) ≡ take (v + 1) (map degree ids)
+step-more degree ids step from v value after in_range in_step so_far is =
+    let at_end : v + 1 - from ≡ v - from + 1 = omega (arith, after) in
+    ap (λ n. take from (map degree ids) ++ take n (slice_set step (v - from) value)) at_end
+    ∙ (ap (λ (xs : List ℤ). take from (map degree ids) ++ xs) (take_more_set step (v - from) value in_step)
+    ∙ (sym (append_assoc (take from (map degree ids)) (take (v - from) step) (value ∷ []))
+    ∙ (ap (λ (xs : List ℤ). xs ++ value ∷ []) so_far
+    ∙ sym (take_more (map degree ids) v (pos 0) (omega (arith, length-map ids degree, in_range))
+    ∙ ap (λ (x : ℤ). take v (map degree ids) ++ x ∷ []) (get_or-map degree ids v 0 (pos 0) in_range ∙ sym is)))))

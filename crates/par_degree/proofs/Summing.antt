@@ -1,9 +1,8 @@
 -- The sum of weights so far, and the degree of a node by its row.
-use Rattle.std.proofs.Common.{◌≡◌, ℕ, ℤ, pos, zero, suc, ◌+◌, ◌*◌, ◌<◌, ◌≤◌, ◌+ℤ◌, ◌≤ℤ◌, Bool, true, false, List, [], ◌∷◌, ◌++◌, map, length, take, get_or, slice_index, slice_index_or, Option, Some, None, refl, sym, ap, ◌∙◌, subst, arith}
+use Rattle.std.proofs.Common.{◌≡◌, ℕ, ℤ, pos, ◌+◌, ◌<◌, ◌≤◌, ◌+ℤ◌, ◌≤ℤ◌, false, List, [], ◌∷◌, ◌++◌, map, length, take, slice_index_or, refl, ap, ◌∙◌, arith}
 use Rattle.std.specs.List.{zip}
 use Rattle.std.proofs.lemmas.Int.{ints}
 use Rattle.std.proofs.lemmas.List.{take_all, take_more, length-map}
-use Rattle.graph_model.specs.View.{ViewArc}
 use Rattle.graph_model.specs.Degrees.{sum_of, weight_in, is_out_of_range, most_weight}
 use Rattle.csr_columns.specs.Rows.{arc_from}
 use Rattle.csr_columns.specs.ViewParts.{bare_arc, heavy_arc}

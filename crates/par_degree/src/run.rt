@@ -9,10 +9,11 @@ ghost use Rattle.par_degree.specs.Runs.{advanced, left, turned_at};
 use crate::counting;
 use crate::weights::weight_refusal;
 use csr_columns::View;
-use gds_causes::{Gate, Mem, Turned};
-use graph_model::{Column, List, Refusal, Shared};
+use gds_causes::{Gate, Turned};
+use graph_model::{Column, List, Mem, Refusal, Shared};
 use std::alloc::Global;
 use std::marker::Model;
+use std::thread::Threads;
 
 /// A view whose degrees are being found. Contracts see the view, and how many nodes have theirs.
 #[derive(Drop)]
@@ -66,17 +67,23 @@ impl DegreeRun {
     /// Treats the next 65,536 nodes, or those that are left. `More` exactly where nodes are left afterwards, and then fewer
     /// than before. It takes no memory, and is never refused.
     ///
-    /// `workers` is 1 to 64. The result is the same for every number of workers and every gate: a step is one part, which goes
-    /// through the gate with number 1.
-    pub fn advance<G: Gate + Sync>(&mut self, workers: u32, gate: &G) -> Result<Turned, Mem>
+    /// `workers` is 1 to 64, and the result is the same for every number of workers and every gate. The step's nodes are cut
+    /// into as many consecutive parts of equal size, the last perhaps shorter. Each goes through the gate with its number,
+    /// counted from 1, and all of them run at once; one alone runs in the caller.
+    pub fn advance<R: Threads + Sync, G: Gate + Sync>(
+        &mut self,
+        rt: &R,
+        workers: u32,
+        gate: &G,
+    ) -> Result<Turned, Mem>
         requires some_workers { 1 ≤ workers }
         requires few_workers { workers ≤ 64 }
         ensures run { self.new ≡ advanced self.old }
         ensures answer { result ≡ Ok (turned_at self.new) }
         ensures left { IfOk result (λ turned. MatchTurned turned (left self.new < left self.old) (left self.new ≡ 0)) }
     {
-        gate.enter(1);
-        self.ready = counting::count_more(self.view.get(), &mut self.values, self.ready);
+        let view = self.view.get();
+        self.ready = counting::count_more(rt, workers, gate, view, &mut self.values, self.ready);
         if (self.ready as usize) < self.values.len() {
             Ok(Turned::More)
         } else {

@@ -1,4 +1,4 @@
-use Rattle.std.proofs.Common.{rules, ℕ, ℤ, pos, length, w64, to_z-of_z, sym, ap, ◌∙◌, arith, List}
+use Rattle.std.proofs.Common.{rules, ℕ, pos, length, w64, to_z-of_z, sym, ap, ◌∙◌, arith, List}
 use Rattle.std.proofs.lemmas.Int.{ints}
 use Rattle.csr_columns.specs.Rows.{ArcRows, row_at}
 use Rattle.par_degree.proofs.Rows.{taken-row, degree-heavy, degree-bare}

@@ -1,5 +1,5 @@
 use Rattle.std.proofs.Common.{rules, ℤ, pos, ◌+ℤ◌, slice_index_or, w64, FitsSigned, sym, ap, ◌∙◌, arith}
-use Rattle.std.proofs.lemmas.Int.{ints, to_z-of_z}
+use Rattle.std.proofs.lemmas.Int.{ints}
 use Rattle.par_degree.proofs.Summing.{in-range, sum-more, sum-whole}
 use Rattle.par_degree.proofs.counting.weight_sum.Goals as goal
 

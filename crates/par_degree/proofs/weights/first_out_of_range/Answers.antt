@@ -1,4 +1,4 @@
-use Rattle.std.proofs.Common.{rules, ◌≡◌, ℕ, ℤ, pos, ◌<◌, ◌≤◌, false, get_or, slice_index_or, w64, to_z-of_z, FitsSigned, ⊎_elim, sym, ap, ◌∙◌, subst, arith}
+use Rattle.std.proofs.Common.{rules, ◌≡◌, ℕ, pos, ◌<◌, ◌≤◌, false, slice_index_or, w64, to_z-of_z, ⊎_elim, sym, ap, ◌∙◌, subst, arith}
 use Rattle.std.proofs.lemmas.Bool.{cases_lt}
 use Rattle.graph_model.specs.Degrees.{is_out_of_range}
 use Rattle.par_degree.proofs.weights.first_out_of_range.Goals as goal

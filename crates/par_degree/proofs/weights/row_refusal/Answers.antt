@@ -1,4 +1,4 @@
-use Rattle.std.proofs.Common.{rules, ℕ, ℤ, List, Option, pos, Some, length, slice_index, slice_index_or, w64, to_z-of_z, sym, ap, ◌∙◌, arith}
+use Rattle.std.proofs.Common.{rules, ℕ, ℤ, List, pos, Some, slice_index, slice_index_or, w64, to_z-of_z, sym, ap, ◌∙◌}
 use Rattle.graph_model.specs.declared.refusal.Refusal.TheVariants.{WeightOutOfRange}
 use Rattle.csr_columns.specs.Rows.{ArcRows, row_at}
 use Rattle.par_degree.proofs.Rows.{row-refused, row-unrefused, row-weightless}

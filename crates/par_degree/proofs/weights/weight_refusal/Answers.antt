@@ -1,4 +1,4 @@
-use Rattle.std.proofs.Common.{ℕ, length, sym, ap, ◌∙◌, subst, arith}
+use Rattle.std.proofs.Common.{length, sym, ap, ◌∙◌, subst, arith}
 use Rattle.csr_columns.specs.Rows.{ArcRows, HasColumnsBeside}
 use Rattle.csr_columns.proofs.ViewRows.{weights-beside}
 use Rattle.par_degree.proofs.Rows.{refusal-found, refusal-none}

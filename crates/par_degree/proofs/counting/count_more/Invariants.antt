@@ -1,7 +1,0 @@
-use Rattle.std.proofs.Common.{◌≡◌, ◌≤◌, length, take}
-use Rattle.graph_model.specs.Degrees.{degrees}
-use Rattle.csr_columns.specs.ViewParts.{plain_view_of}
-use Rattle.par_degree.proofs.counting.count_more.Given as goal
-
-abbrev pub invariant-loop-v : goal.invariant-loop-v
-invariant-loop-v l = take l.v l.values ≡ take l.v (degrees (plain_view_of l.fn.view))
