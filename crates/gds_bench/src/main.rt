@@ -1,13 +1,14 @@
 //! Pieces of work to be timed, each on a graph by a fixed recurrence.
 //!
 //! The words are cases, each with a number of nodes and of arcs, and perhaps `times` behind them: `rows` for rows of arcs,
-//! `project` for a projection of a store. The results go to standard output. With `times` the microseconds of each call go
-//! to standard error, by a clock around the call alone; a file in `bench/` runs the same work in plain Rust beside it.
-//! Nothing is claimed of a case but that it is safe and returns.
+//! `project` for a projection of a store, `groups` for one that groups arcs by each rule. The results go to standard
+//! output. With `times` the microseconds of each call go to standard error, by a clock around the call alone; a file in
+//! `bench/` runs the same work in plain Rust beside it. Nothing is claimed of a case but that it is safe and returns.
 #![tactic(auto)]
 
 mod clock;
 mod graph;
+mod groups;
 mod project;
 mod rows;
 mod stop;
@@ -24,6 +25,7 @@ use std::process::ExitCode;
 enum Work {
     Rows,
     Project,
+    Groups,
 }
 
 /// A piece of work, and the size of its graph.
@@ -66,6 +68,7 @@ fn read_case(work: &str, nodes: &str, arcs: &str) -> Result<Case, Stop> {
     let work = match work {
         "rows" => Work::Rows,
         "project" => Work::Project,
+        "groups" => Work::Groups,
         _ => return Err(Stop::Words),
     };
     Ok(Case {
@@ -95,6 +98,7 @@ fn run(rt: &HostRuntime) -> Result<(), Stop> {
         match case.work {
             Work::Rows => rows::run(rt, case.nodes, case.arcs, &plan.meter)?,
             Work::Project => project::run(rt, case.nodes, case.arcs, &plan.meter)?,
+            Work::Groups => groups::run(rt, case.nodes, case.arcs, &plan.meter)?,
         }
     }
     Ok(())

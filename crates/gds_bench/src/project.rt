@@ -45,8 +45,8 @@ fn project_whole(
     Ok(())
 }
 
-// A store of so many nodes and relationships.
-fn store_of(alloc: Global, nodes: u32, rels: u32) -> Result<Snapshot, Stop>
+/// A store of so many nodes and relationships.
+pub(crate) fn store_of(alloc: Global, nodes: u32, rels: u32) -> Result<Snapshot, Stop>
     requires { 0 < nodes }
 {
     let mut store = empty_store(alloc)?;

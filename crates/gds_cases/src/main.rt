@@ -1,0 +1,102 @@
+//! Rows of cases, each a text that says what is asked and what it should give: `CASE ASKED => WANTED`.
+//!
+//! The words name files of rows; without words standard input holds them. `spec.rt` reads projections from JSON, and
+//! `catalog.rt` keeps, finds and widens named graphs. Standard output gets how many rows there were, and each row that gives
+//! something else. Nothing is claimed of this program but that it is safe and returns.
+#![tactic(auto)]
+
+mod catalog;
+mod spec;
+mod stop;
+
+use crate::stop::Stop;
+use std::process::ExitCode;
+use std::{env, fs, io};
+use user_catalog::Catalog;
+
+/// How many rows were tried, and how many of them gave something else.
+#[derive(Clone, Copy, Debug, PartialEq, Eq)]
+struct Count {
+    rows: u64,
+    differ: u64,
+}
+
+// What a row gives.
+fn given(rt: &HostRuntime, catalog: &mut Catalog, asked: &str) -> Result<String, Stop> {
+    let (case, asked) = asked.split_once(" ").unwrap_or((asked, ""));
+    match case {
+        "spec" => spec::given(rt.alloc(), asked),
+        "catalog" => catalog::given(rt.alloc(), catalog, asked),
+        _ => Err(Stop::Row),
+    }
+}
+
+// Compares what a row gives with what it wants.
+fn judge(
+    rt: &HostRuntime,
+    catalog: &mut Catalog,
+    row: &str,
+    count: &mut Count,
+) -> Result<(), Stop> {
+    let Some((asked, wanted)) = row.split_once(" => ") else {
+        return Err(Stop::Row);
+    };
+    let given = given(rt, catalog, asked)?;
+    count.rows = count.rows.saturating_add(1);
+    if given.as_str().trim_end() != wanted {
+        count.differ = count.differ.saturating_add(1);
+        println!(rt; "{asked} gives {given}, not {wanted}")?;
+    }
+    Ok(())
+}
+
+// Tries the rows of a text. Empty lines and comments are passed over.
+fn judge_all(rt: &HostRuntime, text: &str, count: &mut Count) -> Result<(), Stop> {
+    let mut catalog = Catalog::new(rt.alloc());
+    for row in text.lines() {
+        if row.is_empty() || row.starts_with("#") {
+            continue;
+        }
+        match judge(rt, &mut catalog, row, count) {
+            Ok(()) => {}
+            Err(Stop::Row) => {
+                eprintln!(rt; "gds_cases: this is no row: {row}")?;
+                return Err(Stop::Row);
+            }
+            Err(why) => return Err(why),
+        }
+    }
+    Ok(())
+}
+
+// Tries the rows of a text, and prints how many there were.
+fn judge_text(rt: &HostRuntime, name: &str, text: &str) -> Result<(), Stop> {
+    let mut count = Count { rows: 0, differ: 0 };
+    judge_all(rt, text, &mut count)?;
+    println!(rt;
+        "{name}: rows {}, rows that differ {}",
+        count.rows, count.differ
+    )?;
+    Ok(())
+}
+
+fn run(rt: &HostRuntime) -> Result<(), Stop> {
+    let mut words = 0u64;
+    for word in env::args(rt)?.skip(1) {
+        words = words.saturating_add(1);
+        let text = fs::read_to_string(rt, word.as_str())?;
+        judge_text(rt, word.as_str(), text.as_str())?;
+    }
+    if words == 0 {
+        let text = io::read_to_string(rt.alloc(), rt.stdin())?;
+        judge_text(rt, "standard input", text.as_str())?;
+    }
+    Ok(())
+}
+
+fn main(rt: HostRuntime) -> ExitCode {
+    match run(&rt) {
+        Ok(()) => ExitCode::SUCCESS,
+        Err(stop) => ExitCode::from(stop.status()),
+    }
+}

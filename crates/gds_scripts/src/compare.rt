@@ -1,0 +1,69 @@
+// The first difference between what is wanted and what came.
+use crate::outcome::Outcome;
+use crate::stop::Stop;
+use gds_session::End;
+use std::alloc::Global;
+
+/// Says how an outcome differs from the text and the end that are wanted, or nothing.
+pub(crate) fn difference(
+    alloc: Global,
+    wanted: &[u8],
+    end: End,
+    outcome: &Outcome,
+) -> Result<Option<String>, Stop> {
+    if outcome.text.as_slice() != wanted {
+        let wanted = str::from_utf8(wanted).unwrap_or("");
+        let text = str::from_utf8(outcome.text.as_slice()).unwrap_or("");
+        return Ok(Some(different_answer(alloc, wanted, text)?));
+    }
+    if outcome.end != end {
+        let text = format!(in alloc; "the end is {:?}, not {end:?}", outcome.end)?;
+        return Ok(Some(text));
+    }
+    Ok(None)
+}
+
+// What is said of an answer that is another one, of one that is missing, and of one that is too many.
+fn unlike(alloc: Global, number: u64, answer: &str, wanted: &str) -> Result<String, Stop> {
+    Ok(format!(in alloc; "answer {number} is {answer}, not {wanted}")?)
+}
+
+fn missing(alloc: Global, number: u64, wanted: &str) -> Result<String, Stop> {
+    Ok(format!(in alloc; "answer {number} is missing: {wanted}")?)
+}
+
+fn one_too_many(alloc: Global, answer: &str) -> Result<String, Stop> {
+    Ok(format!(in alloc; "one answer too many: {answer}")?)
+}
+
+// Says which answer differs first.
+fn different_answer(alloc: Global, wanted: &str, text: &str) -> Result<String, Stop> {
+    let mut number: u64 = 0;
+    let mut answers = text.lines();
+    for line in wanted.lines() {
+        number = number.saturating_add(1);
+        match answers.next() {
+            Some(answer) if answer == line => {}
+            Some(answer) => return unlike(alloc, number, answer, line),
+            None => return missing(alloc, number, line),
+        }
+    }
+    match answers.next() {
+        Some(answer) => one_too_many(alloc, answer),
+        None => Ok(String::from_str(alloc, "an LF is missing or too many")?),
+    }
+}
+
+/// The front of a text that has so many lines.
+pub(crate) fn first_lines(text: &[u8], count: usize) -> &[u8] {
+    let mut left = count;
+    for (place, byte) in text.iter().enumerate() {
+        if left == 0 {
+            return &text[..place];
+        }
+        if *byte == b'\n' {
+            left -= 1;
+        }
+    }
+    text
+}
