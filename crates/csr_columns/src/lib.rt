@@ -19,8 +19,6 @@ mod mirroring;
 mod parts;
 mod projection;
 mod taking;
-#[cfg(test)]
-mod tests;
 mod turning;
 mod view;
 mod viewing;

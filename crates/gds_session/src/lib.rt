@@ -15,10 +15,6 @@ pub mod laws;
 mod once;
 mod performing;
 mod serving;
-#[cfg(test)]
-mod shell_tests;
-#[cfg(test)]
-mod tests;
 
 pub use asking::shell;
 pub use command::run;

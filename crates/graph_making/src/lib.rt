@@ -7,8 +7,6 @@
 
 mod built;
 mod capture;
-#[cfg(test)]
-mod tests;
 
 pub use built::Built;
 pub use capture::{Captured, MakeSpec};

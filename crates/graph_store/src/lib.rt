@@ -27,8 +27,6 @@ mod slots;
 mod store;
 mod table;
 mod tally;
-#[cfg(test)]
-mod tests;
 mod values;
 
 pub use store::{Prepared, Snapshot, Store};

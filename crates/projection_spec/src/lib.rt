@@ -18,8 +18,6 @@ mod reading;
 mod rels;
 mod settings;
 mod settled;
-#[cfg(test)]
-mod tests;
 mod words;
 mod written;
 

@@ -6,8 +6,6 @@
 
 mod groups;
 mod refusal;
-#[cfg(test)]
-mod tests;
 mod values;
 
 pub use groups::group;

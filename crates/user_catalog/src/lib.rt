@@ -9,8 +9,6 @@
 mod catalog;
 mod entry;
 pub mod laws;
-#[cfg(test)]
-mod tests;
 
 pub use catalog::Catalog;
 pub use entry::Entry;
