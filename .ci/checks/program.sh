@@ -4,7 +4,7 @@ set -u
 cd "$(dirname "$0")/../.." || exit 1
 program=crates/gds_program/out/gds_program
 if [ ! -x "$program" ]; then
-  echo "program check: skipped, since the program isn't built"
+  echo "program check: all of it is skipped, since the program isn't built"
   exit 0
 fi
 passed=0
@@ -45,6 +45,8 @@ if [ -w /dev/full ]; then
     failed=$((failed + 1))
     echo "program check: a full disk"
   fi
+else
+  echo "program check: a full disk is skipped, since /dev/full can't be written"
 fi
 
 # As many relationships as there may be, and one more.
@@ -57,7 +59,7 @@ if command -v yes >/dev/null 2>&1; then
   echo 'rel 0 0' >>"$work/most"
   expect "one relationship too many" 3 '' 'gds: bad input at line 16777218\n' once degree <"$work/most"
 else
-  echo "program check: the limits are skipped, since there is no yes"
+  echo "program check: the limits are skipped, since there is no command yes"
 fi
 
 echo "program check: $passed passed, $failed failed"
