@@ -1,5 +1,4 @@
-//! Tests of what no program can show: when a sink is flushed, how faults over std's streams are counted, what openers give and
-//! take back, and which parts of a round and of a step go through the gate, two of them at once.
+//! Tests of what no program can show: which parts of a round and of a step go through the gate, two of them at once.
 //!
 //! Everything else that is tried runs as data of programs. This crate has no code of its own.
 #![tactic(auto)]
@@ -8,7 +7,3 @@
 mod degrees;
 #[cfg(test)]
 mod gates;
-#[cfg(test)]
-mod openers;
-#[cfg(test)]
-mod streams;
