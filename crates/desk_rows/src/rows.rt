@@ -72,7 +72,8 @@ ann exists g65 => {"ok":{"graphName":"g65","exists":false}}
 bob project g65 => {"ok":{"graphName":"g65","nodeCount":1,"relationshipCount":0,"version":1,"jobId":"job-1"}}"#;
 
 // A value is set under an import id, which the keeper fails to keep; it is sent again, and once more with other values.
-const IMPORTS: &str = r#"ann make 1 => {"ok":{"firstNode":0,"nodes":1,"firstRelationship":0,"relationships":0}}
+const IMPORTS: &str =
+    r#"ann make 1 => {"ok":{"firstNode":0,"nodes":1,"firstRelationship":0,"relationships":0}}
 ann set 5,6 => {"refused":{"number":28,"code":"StoreFault","batches":0}}
 ann stored d => {"ok":{"rows":[{"nodeId":0,"value":1}]}}
 ann set 5,6 => {"ok":{"set":2}}
