@@ -14,6 +14,7 @@ pub mod Gathered
 pub mod Refusing
 pub mod ViewArcs
 pub mod Taken
+pub mod Counted
 pub mod Viewed
 pub mod Renumbering
 pub mod Unmoved

@@ -1,8 +1,5 @@
 -- The types of a projection, among the ids of its nodes.
 use Rattle.std.proofs.Common.{◌≡◌, ℕ, ◌+◌, ◌≤◌, Bool, true, false, cond, eqb, nat_le, ◌&&◌, ◌||◌, is_some, List, [], ◌∷◌, length, map, Option, Some, None, Result, Ok, Err, refl, sym, ap, ◌∙◌, true≢false, arith}
-use Rattle.std.proofs.lemmas.List.{length-map}
-use Rattle.std.proofs.lemmas.List.FromFn.{length-enumerate_from}
-use Rattle.std.proofs.lemmas.List.Sums.{sum_by-cons}
 use Rattle.std.specs.List.{enumerate_from, filter, flat_map, list_any, sum_by}
 use Rattle.std.specs.Result.{is_ok}
 use Rattle.graph_model.specs.declared.graph.Node.{Node}
@@ -20,10 +17,9 @@ use Rattle.projection_spec.specs.RawArcs.{is_projected, is_projected_id, is_aske
 use Rattle.projection_spec.specs.KeptArcs.{SumOut, kept_arcs}
 use Rattle.projection_spec.specs.NativeProjection.{type_of, before_types, projected_types, projected, refused_names, within_limit, unless_refused, projection_with}
 use Rattle.csr_columns.specs.declared.parts.TypeColumns.{TypeColumns}
-use Rattle.csr_columns.specs.Rows.{arcs_of as row_arcs}
-use Rattle.csr_columns.specs.Parts.{arcs_in, arcs_in_type, kind_of}
+use Rattle.csr_columns.specs.Parts.{arcs_in, kind_of}
 use Rattle.csr_columns.specs.Plain.{plain_arc, plain_arcs, plain_type}
-use Rattle.csr_columns.proofs.Taken.{length-arcs_of}
+use Rattle.csr_columns.proofs.Counted.{types-count}
 use Rattle.projected_nodes.specs.Columns.{id_of}
 use Rattle.projected_arcs.specs.Places.{place_from, place_of}
 use Rattle.projected_arcs.specs.Types.{joins_among, arcs_among, type_among}
@@ -74,20 +70,6 @@ pub projected-known : (spec : SpecFields) (g : PropertyGraph) → refused_names 
 projected-known spec g known = ap (λ r. unless_refused r spec g) known ∙ ap (within_limit spec g) (types-same g spec.nodes spec.rels)
 
 -- ---- how many arcs there are
-
-type-count : (ids : List ℕ) (type : TypeColumns) → type_arc_count (plain_type ids type) ≡ arcs_in_type type
-type-count ids type =
-    length-map (enumerate_from 0 (row_arcs type.arcs.rows)) _
-    ∙ length-enumerate_from 0 (row_arcs type.arcs.rows)
-    ∙ length-arcs_of type.arcs.rows
-
-pub types-count : (ids : List ℕ) (types : List TypeColumns) → sum_by type_arc_count (map (plain_type ids) types) ≡ arcs_in types
-types-count ids [] = refl
-types-count ids (type ∷ types) =
-    sum_by-cons type_arc_count (plain_type ids type) (map (plain_type ids) types)
-    ∙ ap (λ n. n + sum_by type_arc_count (map (plain_type ids) types)) (type-count ids type)
-    ∙ ap (λ n. arcs_in_type type + n) (types-count ids types)
-    ∙ sym (sum_by-cons arcs_in_type type types)
 
 -- types that are few enough make the projection, and others are refused
 pub projected-fits : (spec : SpecFields) (g : PropertyGraph) (types : List TypeColumns) → refused_names spec g ≡ None → types_among (kept_ids g spec.nodes) g spec.rels ≡ Ok (map (plain_type (kept_ids g spec.nodes)) types) → nat_le (arcs_in types) most_arcs ≡ true

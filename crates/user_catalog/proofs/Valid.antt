@@ -21,7 +21,7 @@ use Rattle.user_catalog.specs.Catalog.{NamedGraphs, named_graphs, most_graphs, i
 -- ---- the order of names
 
 -- an entry that stands behind a name
-behind-yes : (name : List ℕ) (e : List ℕ × Entry) → is_behind name e ≡ true → IsBefore name e.0
+behind-yes : {A : Type 0} (name : List ℕ) (e : List ℕ × A) → is_behind name e ≡ true → IsBefore name e.0
 behind-yes name e h = less (slice_cmp nat_cmp name e.0) h
   where
     less : (o : Ordering) → is_lt o ≡ true → o ≡ Less
@@ -30,7 +30,7 @@ behind-yes name e h = less (slice_cmp nat_cmp name e.0) h
     less Greater h = absurd cc
 
 -- one that doesn't, and has another name
-behind-no : (name : List ℕ) (e : List ℕ × Entry) → is_behind name e ≡ false → is_named name e ≡ false → IsBefore e.0 name
+behind-no : {A : Type 0} (name : List ℕ) (e : List ℕ × A) → is_behind name e ≡ false → is_named name e ≡ false → IsBefore e.0 name
 behind-no name e h other = reverse (slice_cmp nat_cmp name e.0) refl h
   where
     reverse : (o : Ordering) → slice_cmp nat_cmp name e.0 ≡ o → is_lt o ≡ false → IsBefore e.0 name
@@ -40,19 +40,19 @@ behind-no name e h other = reverse (slice_cmp nat_cmp name e.0) refl h
 
 -- ---- what stands under no name
 
-pub not_first : (name : List ℕ) (e : List ℕ × Entry) (entries : List (List ℕ × Entry)) → under name (e ∷ entries) ≡ None → is_named name e ≡ false
+pub not_first : {A : Type 0} (name : List ℕ) (e : List ℕ × A) (entries : List (List ℕ × A)) → under name (e ∷ entries) ≡ None → is_named name e ≡ false
 not_first name e entries none =
     ⊎_elim
     (λ (named : is_named name e ≡ true). absurd (let there = rw named at none in cc))
     (λ (other : is_named name e ≡ false). other)
     (cases_Bool (is_named name e))
 
-pub not_behind : (name : List ℕ) (e : List ℕ × Entry) (entries : List (List ℕ × Entry)) → under name (e ∷ entries) ≡ None → under name entries ≡ None
+pub not_behind : {A : Type 0} (name : List ℕ) (e : List ℕ × A) (entries : List (List ℕ × A)) → under name (e ∷ entries) ≡ None → under name entries ≡ None
 not_behind name e entries none = rw (not_first name e entries none) at none
 
 -- ---- an entry more
 
-All-inserted : (P : List ℕ × Entry → Type 0) (name : List ℕ) (entry : Entry) (entries : List (List ℕ × Entry)) → P (name, entry) → AllByRecursion P entries → AllByRecursion P (inserted name entry entries)
+pub All-inserted : {A : Type 0} (P : List ℕ × A → Type 0) (name : List ℕ) (entry : A) (entries : List (List ℕ × A)) → P (name, entry) → AllByRecursion P entries → AllByRecursion P (inserted name entry entries)
 All-inserted P name entry [] here all = (here, tt)
 All-inserted P name entry (e ∷ entries) here all =
     elim (is_behind name e) as (λ b. AllByRecursion P (cond b ((name, entry) ∷ e ∷ entries) (e ∷ inserted name entry entries))) [
@@ -68,7 +68,7 @@ length-inserted name entry (e ∷ entries) =
       | false ↦ ap suc (length-inserted name entry entries)
     ]
 
-ascending-inserted : (name : List ℕ) (entry : Entry) (entries : List (List ℕ × Entry)) → under name entries ≡ None → Pairwise ComesBefore entries → Pairwise ComesBefore (inserted name entry entries)
+pub ascending-inserted : {A : Type 0} (name : List ℕ) (entry : A) (entries : List (List ℕ × A)) → under name entries ≡ None → Pairwise ComesBefore entries → Pairwise ComesBefore (inserted name entry entries)
 ascending-inserted name entry [] none up = (tt, tt)
 ascending-inserted name entry (e ∷ entries) none up =
     ⊎_elim
@@ -80,19 +80,20 @@ ascending-inserted name entry (e ∷ entries) none up =
     rw ahead (All-inserted (ComesBefore e) name entry entries last up.0, ascending-inserted name entry entries (not_behind name e entries none) up.1))
     (cases_Bool (is_behind name e))
 
-distinct-inserted : (name : List ℕ) (entry : Entry) (entries : List (List ℕ × Entry)) → AllByRecursion (λ other. other.1.version ≢ entry.version) entries → Pairwise HasOtherVersion entries → Pairwise HasOtherVersion (inserted name entry entries)
-distinct-inserted name entry [] new apart = (tt, tt)
-distinct-inserted name entry (e ∷ entries) new apart =
-    elim (is_behind name e) as (λ b. Pairwise HasOtherVersion (cond b ((name, entry) ∷ e ∷ entries) (e ∷ inserted name entry entries))) [
-      | true ↦ (All-map_fact (e ∷ entries) (λ other differs same. differs (sym same)) new, apart)
-      | false ↦ (All-inserted (HasOtherVersion e) name entry entries new.0 apart.0, distinct-inserted name entry entries new.1 apart.1)
+pub Pairwise-inserted : {A : Type 0} (R : List ℕ × A → List ℕ × A → Type 0) (name : List ℕ) (entry : A) (entries : List (List ℕ × A)) → AllByRecursion (R (name, entry)) entries → AllByRecursion (λ e. R e (name, entry)) entries → Pairwise R entries → Pairwise R (inserted name entry entries)
+Pairwise-inserted R name entry [] first second pairs = (tt, tt)
+Pairwise-inserted R name entry (e ∷ entries) first second pairs =
+    elim (is_behind name e) as (λ b. Pairwise R (cond b ((name, entry) ∷ e ∷ entries) (e ∷ inserted name entry entries))) [
+      | true ↦ (first, pairs)
+      | false ↦ (All-inserted (R e) name entry entries second.0 pairs.0, Pairwise-inserted R name entry entries first.1 second.1 pairs.1)
     ]
 
 pub catalog-inserted : (c : NamedGraphs) (name : List ℕ) (graph : Parts) → under name c.entries ≡ None → length c.entries < most_graphs → IsCatalog c → IsCatalog (after_insert c name graph)
 catalog-inserted c name graph none room is = record {
   ascending = ascending-inserted name (next_entry c graph) c.entries none is.ascending;
-  distinct = distinct-inserted name (next_entry c graph) c.entries
-      (All-map_fact c.entries (λ e given same. omega (arith, given.0, given.1)) is.given) is.distinct;
+  distinct = Pairwise-inserted HasOtherVersion name (next_entry c graph) c.entries
+      (All-map_fact c.entries (λ e given same. omega (arith, given.0, given.1, same)) is.given)
+      (All-map_fact c.entries (λ e given same. omega (arith, given.0, given.1, same)) is.given) is.distinct;
   given = All-inserted (WasGiven (c.last + 1)) name (next_entry c graph) c.entries (omega arith, omega arith)
       (All-map_fact c.entries (λ e given. (given.0, omega (arith, given.1))) is.given);
   few = omega (arith, length-inserted name (next_entry c graph) c.entries);
@@ -100,7 +101,7 @@ catalog-inserted c name graph none room is = record {
 
 -- ---- an entry less
 
-All-removed : (P : List ℕ × Entry → Type 0) (name : List ℕ) (entries : List (List ℕ × Entry)) → AllByRecursion P entries → AllByRecursion P (removed name entries)
+pub All-removed : {A : Type 0} (P : List ℕ × A → Type 0) (name : List ℕ) (entries : List (List ℕ × A)) → AllByRecursion P entries → AllByRecursion P (removed name entries)
 All-removed P name [] all = tt
 All-removed P name (e ∷ entries) all =
     elim (is_named name e) as (λ b. AllByRecursion P (cond b entries (e ∷ removed name entries))) [
@@ -108,7 +109,7 @@ All-removed P name (e ∷ entries) all =
       | false ↦ (all.0, All-removed P name entries all.1)
     ]
 
-Pairwise-removed : (R : List ℕ × Entry → List ℕ × Entry → Type 0) (name : List ℕ) (entries : List (List ℕ × Entry)) → Pairwise R entries → Pairwise R (removed name entries)
+pub Pairwise-removed : {A : Type 0} (R : List ℕ × A → List ℕ × A → Type 0) (name : List ℕ) (entries : List (List ℕ × A)) → Pairwise R entries → Pairwise R (removed name entries)
 Pairwise-removed R name [] pairs = tt
 Pairwise-removed R name (e ∷ entries) pairs =
     elim (is_named name e) as (λ b. Pairwise R (cond b entries (e ∷ removed name entries))) [

@@ -145,7 +145,7 @@ after_column c name key column = record c { entries = widened name key column c.
 -- ---- what holds at every moment
 
 -- the name of an entry comes before another's
-abbrev pub ComesBefore : List ℕ × Entry → List ℕ × Entry → Type 0
+abbrev pub ComesBefore : {A : Type 0} → List ℕ × A → List ℕ × A → Type 0
 ComesBefore a b = IsBefore a.0 b.0
 
 -- two entries have different versions
