@@ -11,7 +11,7 @@ use crate::fields::{
 use crate::lines::{put_graphs, put_jobs, put_made, put_there};
 use crate::refused::put_refusal;
 use desk_model::Reply;
-use graph_model::{Column, List, Mem};
+use graph_model::{ChangeReply, Column, List, Mem};
 use std::alloc::Global;
 
 // Puts the answer of a change that made something.
@@ -43,6 +43,22 @@ fn put_deleted(text: &mut Vec<u8>, nodes: u32, rels: u32) -> Result<(), Mem>
 {
     put_first_field(text, "nodes", u64::from(nodes))?;
     put_number_field(text, "relationships", u64::from(rels))
+}
+
+// Puts the answer of a change.
+fn put_change(text: &mut Vec<u8>, answer: ChangeReply) -> Result<(), Mem>
+    ensures { OnOk result (text.new.items ≡ text.old.items ++ change_fields answer) }
+{
+    match answer {
+        ChangeReply::Created {
+            first_node,
+            nodes,
+            first_rel,
+            rels,
+        } => put_created(text, first_node, nodes, first_rel, rels),
+        ChangeReply::Set { pairs } => put_set(text, pairs),
+        ChangeReply::Deleted { nodes, rels } => put_deleted(text, nodes, rels),
+    }
 }
 
 // Puts the row of a node, its value in a field of this name.
@@ -82,14 +98,7 @@ fn put_ok_fields(text: &mut Vec<u8>, reply: &Reply) -> Result<(), Mem>
     ensures { OnOk result (text.new.items ≡ text.old.items ++ ok_fields (plain_reply reply.now)) }
 {
     match reply {
-        Reply::Created {
-            first_node,
-            nodes,
-            first_rel,
-            rels,
-        } => put_created(text, *first_node, *nodes, *first_rel, *rels),
-        Reply::Set { pairs } => put_set(text, *pairs),
-        Reply::Deleted { nodes, rels } => put_deleted(text, *nodes, *rels),
+        Reply::Changed(answer) => put_change(text, *answer),
         Reply::Stored(column) => put_rows(text, "value", column),
         Reply::Made(line) => put_made(text, line),
         Reply::Asked { job } => put_first_text_field(text, "jobId", job.bytes()),

@@ -10,7 +10,8 @@ use Rattle.graph_model.specs.declared.graph.Choice.{Choice}
 use Rattle.graph_model.specs.declared.graph.PropertyGraph.{PropertyGraph}
 use Rattle.graph_model.specs.Graph.{is_node}
 use Rattle.graph_model.specs.ById.{NodesComeById, nodes_below}
-use Rattle.desk_model.specs.Step.{chosen_row, chooses, stored_value, row_of}
+use Rattle.projection_spec.specs.RawArcs.{stored_value}
+use Rattle.desk_model.specs.Step.{chosen_row, chooses, row_of}
 use Rattle.desk_core.specs.Rows.{row_at, value_of_row}
 
 -- what is found by an id has this id
@@ -37,7 +38,7 @@ chosen-of_value id false value = refl
 found-of_value : (key : List ℕ) (labels : Choice) (found : Option Node) (id : ℕ) → IfSome found (λ node. node.id ≡ id) → option_and_then (chosen_row key labels) found ≡ of_value id (value_of_row (option_and_then (chosen_row key labels) found))
 found-of_value key labels None id is = refl
 found-of_value key labels (Some node) id is =
-    rw (← is) (chosen-of_value node.id (chooses labels node) (stored_value key node.props))
+    rw (← is) (chosen-of_value node.id (chooses labels node) (stored_value node.props key))
 
 -- the row of an id is made of its value
 pub row_at-of_value : (key : List ℕ) (labels : Choice) (g : PropertyGraph) (id : ℕ) (value : Option ℤ) → value ≡ value_of_row (row_at key labels g id) → row_at key labels g id ≡ of_value id value

@@ -1,6 +1,6 @@
 // What is captured for a job that makes a graph.
 ghost use Rattle.std.specs.Prelude.{◌≡◌, IfOk};
-ghost use Rattle.desk_model.specs.State.{UserLists};
+ghost use Rattle.graph_making.specs.Making.{plain_capture};
 ghost use Rattle.desk_model.specs.Step.{captured_for};
 
 use graph_making::{Captured, MakeSpec};
@@ -13,7 +13,7 @@ use std::alloc::Global;
 /// # Errors
 /// `Mem` where there is no memory for it.
 pub(crate) fn capture(alloc: Global, store: &Store, spec: &MakeSpec) -> Result<Captured, Mem>
-    ensures { (lists : UserLists) → IfOk result (λ captured. captured ≡ captured_for spec.now (record { graph = store.now; lists = lists })) }
+    ensures { IfOk result (λ captured. plain_capture captured ≡ captured_for spec.now store.now) }
 {
     match spec {
         MakeSpec::Native(_) => Ok(Captured::Store(Shared::new(alloc, store.snapshot()?)?)),

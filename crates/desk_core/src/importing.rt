@@ -1,9 +1,9 @@
 // Changes whose answers are kept under import ids.
-ghost use Rattle.std.specs.Prelude.{◌≡◌, ◌<◌, ◌≤◌, length, Some, None, Err, IfOk, IfErr, OnOk, OnErr};
+ghost use Rattle.std.specs.Prelude.{◌≡◌, ℕ, ◌<◌, ◌≤◌, List, Option, length, Some, None, Err, IfOk, IfErr, OnOk, OnErr};
 ghost use Rattle.gds_causes.specs.Faults.{Rose};
 ghost use Rattle.graph_model.specs.Change.{IsWellFormedChange, after_change, refused_change, change_answer};
 ghost use Rattle.graph_model.specs.Kept.{most_imports};
-ghost use Rattle.desk_model.specs.Step.{kept_answer, with_answer, IsStep};
+ghost use Rattle.desk_model.specs.Step.{kept_answer, with_answer, IsPartStep};
 ghost use Rattle.user_lists.specs.Users.{lists_of, OthersStay};
 ghost use Rattle.desk_core.specs.Answered.{IsCause, UnlessStoreFault, change_reply};
 ghost use Rattle.desk_core.specs.Fields.{IsDeskOf};
@@ -97,10 +97,10 @@ pub(crate) fn import_change<K: Keeper>(
 ) -> Result<ChangeReply, Refusal>
     requires formed { IsWellFormedChange change.now }
     requires told { IsDeskOf (K.kept keeper.old) store.old users.old }
-    ensures step { IsStep (Event.Change (Some id.now) change.now)
-        (record { graph = store.old; lists = lists_of users.old user.now })
+    ensures step { (admin : Option (List ℕ)) → IsPartStep user.now (Event.Change (Some id.now) change.now)
+        (record { graph = store.old; admin = admin; lists = lists_of users.old user.now })
         (change_reply result)
-        (record { graph = store.new; lists = lists_of users.new user.now }) }
+        (record { graph = store.new; admin = admin; lists = lists_of users.new user.now }) }
     ensures others { OthersStay user.now users.old users.new }
     ensures told { IsDeskOf (K.kept keeper.new) store.new users.new }
     ensures path { K.path keeper.new ≡ K.path keeper.old }

@@ -12,21 +12,7 @@ pub(crate) fn changed(made: Result<ChangeReply, Refusal>) -> Reply
     ensures { plain_reply result ≡ change_reply made }
 {
     match made {
-        Ok(
-            ChangeReply::Created {
-                first_node,
-                nodes,
-                first_rel,
-                rels,
-            },
-        ) => Reply::Created {
-            first_node,
-            nodes,
-            first_rel,
-            rels,
-        },
-        Ok(ChangeReply::Set { pairs }) => Reply::Set { pairs },
-        Ok(ChangeReply::Deleted { nodes, rels }) => Reply::Deleted { nodes, rels },
+        Ok(answer) => Reply::Changed(answer),
         Err(why) => Reply::Refused(why),
     }
 }

@@ -10,28 +10,17 @@ ghost use Rattle.graph_model.specs.View.{unknown_choice};
 ghost use Rattle.csr_columns.specs.Rows.{names_of};
 ghost use Rattle.csr_columns.specs.Choosing.{kept_flags};
 ghost use Rattle.csr_columns.specs.Plain.{plain};
-ghost use Rattle.desk_model.specs.Step.{stored_value, chooses, chosen_row, stored_rows};
+ghost use Rattle.desk_model.specs.Step.{chooses, chosen_row, stored_rows};
 ghost use Rattle.desk_model.specs.Graphs.{refused_under, rows_under};
 ghost use Rattle.desk_model.specs.Replies.{rows_of};
 ghost use Rattle.desk_core.specs.Rows.{value_of_row, row_at, kept_below};
 
 use csr_columns::Projection;
 use graph_model::laws::elements_come_by_id;
-use graph_model::{Choice, Column, Mem, Name, Node, Prop, Refusal, TryClone};
+use graph_model::{Choice, Column, Mem, Name, Node, Refusal, TryClone};
 use graph_store::Store;
+use projection_spec::stored_value;
 use std::alloc::Global;
-
-/// The value that is stored under a key.
-fn value_under(key: &Name, props: &[Prop]) -> Option<i64>
-    ensures { result ≡ stored_value key.now props.now }
-{
-    for prop in props {
-        if prop.key == *key {
-            return Some(prop.value);
-        }
-    }
-    None
-}
 
 /// Whether a label is one of some names.
 fn is_named(names: &[Name], label: &Name) -> bool
@@ -65,7 +54,7 @@ fn chosen_value(store: &Store, id: u32, key: &Name, labels: &Choice) -> Option<i
         return None;
     };
     if is_chosen(labels, node) {
-        value_under(key, node.props.as_slice())
+        stored_value(node.props.as_slice(), key)
     } else {
         None
     }

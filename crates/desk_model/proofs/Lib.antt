@@ -1,3 +1,8 @@
 pub mod Effects
+pub mod JobLemmas
+pub mod JobEffects
+pub mod States
 pub mod Ready
-pub mod Alone
+pub mod Valid
+pub mod Isolation
+pub mod Going

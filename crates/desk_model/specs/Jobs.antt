@@ -18,8 +18,7 @@ use Rattle.graph_model.specs.declared.refusal.Counter.TheVariants.{Jobs}
 use Rattle.graph_model.specs.Lists.{first_there}
 use Rattle.graph_model.specs.Projection.{PlainProjection}
 use Rattle.user_catalog.specs.Catalog.{refused_graph}
-use Rattle.graph_making.specs.declared.capture.Captured.{Captured}
-use Rattle.graph_making.specs.Making.{made_of}
+use Rattle.graph_making.specs.Making.{PlainCapture, made_of}
 use Rattle.desk_model.specs.declared.job.JobKind.TheVariants.{Making}
 use Rattle.desk_model.specs.declared.lines.JobLine.{JobLine}
 use Rattle.desk_model.specs.State.{JobSpec, Make, Job, UserLists}
@@ -70,11 +69,11 @@ next_job_name None number = codes "job-" ++ decimal number
 next_job_name (Some name) number = name
 
 -- a job that makes a graph, as it begins
-abbrev pub new_job : ℕ → List ℕ → Captured → JobSpec → Job
+abbrev pub new_job : ℕ → List ℕ → PlainCapture → JobSpec → Job
 new_job number name captured spec = record {
   number = number;
   name = name;
-  kind = Making;
+  stage = Making;
   captured = captured;
   spec = spec;
   asked = false;
@@ -84,7 +83,7 @@ new_job number name captured spec = record {
 }
 
 -- the next job that makes a graph
-abbrev pub next_job : Option (List ℕ) → Captured → JobSpec → UserLists → Job
+abbrev pub next_job : Option (List ℕ) → PlainCapture → JobSpec → UserLists → Job
 next_job name captured spec lists = new_job (lists.last_job + 1) (next_job_name name (lists.last_job + 1)) captured spec
 
 -- the lists with one more job, under the next number
@@ -134,7 +133,7 @@ abbrev pub graph_name : JobSpec → List ℕ
 graph_name (Make name spec) = name
 
 -- what comes of a capture and what a job was asked for
-abbrev pub made_for : Captured → JobSpec → Result PlainProjection Refusal
+abbrev pub made_for : PlainCapture → JobSpec → Result PlainProjection Refusal
 made_for captured (Make name spec) = made_of captured spec
 
 -- the graph that a job makes of what it captured, or why there is none
@@ -160,7 +159,7 @@ refused_making lists job =
 
 -- what is told of a job
 abbrev pub job_line : Job → JobLine
-job_line job = record { name = job.name; kind = job.kind; asked = job.asked; batches = job.batches }
+job_line job = record { name = job.name; kind = job.stage; asked = job.asked; batches = job.batches }
 
 -- what is told of each job
 abbrev pub job_lines : UserLists → List JobLine

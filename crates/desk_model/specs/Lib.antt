@@ -4,7 +4,9 @@ pub mod Jobs
 pub mod Graphs
 pub mod Replies
 pub mod Step
+pub mod Valid
 pub mod History
+pub mod Isolation
+pub mod Going
 pub mod Script
-pub mod OneJob
 pub mod WorkedRows

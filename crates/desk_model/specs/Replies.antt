@@ -1,14 +1,13 @@
 -- Replies as plain data.
---   PlainReply            a reply, its columns as rows
+--   PlainReply            a reply, its columns as rows and its captures as plain graphs
 --   rows_of column        the rows of a column
 --   plain_reply reply     the plain form of a reply
 use Rattle.std.specs.Prelude.{ℕ, ℤ, Bool, List}
 use Rattle.std.specs.List.{zip}
 use Rattle.graph_model.specs.declared.graph.Column.{Column}
 use Rattle.graph_model.specs.declared.change.ChangeReply.{ChangeReply}
-use Rattle.graph_model.specs.declared.change.ChangeReply.TheVariants as answer
 use Rattle.graph_model.specs.declared.refusal.Refusal as model
-use Rattle.graph_making.specs.declared.capture.Captured.{Captured}
+use Rattle.graph_making.specs.Making.{PlainCapture, plain_capture}
 use Rattle.desk_model.specs.declared.lines.GraphLine.{GraphLine}
 use Rattle.desk_model.specs.declared.lines.JobLine.{JobLine}
 use Rattle.desk_model.specs.declared.asked.Reply.{Reply}
@@ -19,7 +18,7 @@ use Rattle.desk_model.specs.declared.asked.Reply.TheVariants as reply
 pub data PlainReply : Type 0 where
   Changed : ChangeReply → PlainReply
   Stored : List (ℕ × ℤ) → PlainReply
-  Making : ℕ → List ℕ → Captured → PlainReply
+  Making : ℕ → List ℕ → PlainCapture → PlainReply
   Made : GraphLine → PlainReply
   Ended : PlainReply
   Asked : List ℕ → PlainReply
@@ -35,11 +34,9 @@ rows_of column = zip column.ids column.values
 
 -- the plain form of a reply
 abbrev pub plain_reply : Reply → PlainReply
-plain_reply (reply.Created first_node nodes first_rel rels) = Changed (answer.Created first_node nodes first_rel rels)
-plain_reply (reply.«Set» pairs) = Changed (answer.«Set» pairs)
-plain_reply (reply.Deleted nodes rels) = Changed (answer.Deleted nodes rels)
+plain_reply (reply.Changed answer) = Changed answer
 plain_reply (reply.Stored column) = Stored (rows_of column)
-plain_reply (reply.Making number name captured) = Making number name captured
+plain_reply (reply.Making number name captured) = Making number name (plain_capture captured)
 plain_reply (reply.Made line) = Made line
 plain_reply reply.Ended = Ended
 plain_reply (reply.Asked name) = Asked name

@@ -1,15 +1,15 @@
--- The state of the machine: one graph, and lists of each user.
+-- The state of the machine: one graph, an administrator or none, and lists of each user.
 --   NamedGraph              a graph of a user, which stands under a name
 --   JobSpec                 what a job was asked for
 --   Job                     a job of a user
 --   UserLists               what is kept for a user
---   Part                    the part of a user in a state: the graph, and the user's lists
---   State                   one graph, and for each user their lists
---   loaded_state kept       the state of a machine that begins with what is kept
+--   Part                    the part of a user in a state: the graph, the administrator, and the user's lists
+--   State                   one graph, the administrator or none, and for each user their lists
+--   IsNewUser lists         nothing is kept for a user but answers of imports
+--   loaded_state admin kept the state of a machine that begins with what is kept
 --   part_of state user      the part of a user
 --   with_part state user p  a state with another part for a user
---   SameState               two states with the same graph and the same lists for each user
-use Rattle.std.specs.Prelude.{◌≡◌, ℕ, ℤ, Bool, if◌then◌else◌, List, []}
+use Rattle.std.specs.Prelude.{◌≡◌, ℕ, ℤ, Bool, if◌then◌else◌, List, [], Option}
 use Rattle.std.specs.Str.{bytes_eq}
 use Rattle.graph_model.specs.declared.graph.PropertyGraph.{PropertyGraph}
 use Rattle.graph_model.specs.declared.change.ChangeReply.{ChangeReply}
@@ -17,8 +17,8 @@ use Rattle.graph_model.specs.declared.kept.ImportNote.{ImportNote}
 use Rattle.graph_model.specs.declared.kept.Kept.{Kept}
 use Rattle.graph_model.specs.Kept.{answers_of}
 use Rattle.graph_model.specs.Projection.{PlainProjection}
-use Rattle.graph_making.specs.declared.capture.Captured.{Captured}
 use Rattle.graph_making.specs.declared.capture.MakeSpec.{MakeSpec}
+use Rattle.graph_making.specs.Making.{PlainCapture}
 use Rattle.desk_model.specs.declared.job.JobKind.{JobKind}
 
 -- a graph that stands under a name: its version and its projection
@@ -35,8 +35,8 @@ pub data JobSpec : Type 0 where
 pub record Job : Type 0 where
   pub number : ℕ
   pub name : List ℕ
-  pub kind : JobKind
-  pub captured : Captured
+  pub stage : JobKind
+  pub captured : PlainCapture
   pub spec : JobSpec
   pub asked : Bool
   pub batches : ℕ
@@ -64,33 +64,31 @@ loaded_lists notes user = record no_lists { imports = answers_of user notes }
 abbrev pub IsNewUser : UserLists → Type 0
 IsNewUser lists = lists ≡ record no_lists { imports = lists.imports }
 
--- the part of a user: the graph, and the user's lists
+-- the part of a user: the graph, the administrator or none, and the user's lists
 pub record Part : Type 0 where
   pub graph : PropertyGraph
+  pub admin : Option (List ℕ)
   pub lists : UserLists
 
--- one graph, and for each user their lists
+-- one graph, the administrator or none, and for each user their lists
 pub record State : Type 0 where
   pub graph : PropertyGraph
+  pub admin : Option (List ℕ)
   pub lists : List ℕ → UserLists
 
--- the state of a machine that begins with what is kept: its graph, and each user's answers of imports
-abbrev pub loaded_state : Kept → State
-loaded_state kept = record { graph = kept.graph; lists = loaded_lists kept.imports }
+-- the state of a machine that begins with an administrator or none and with what is kept: its graph, and each user's answers
+-- of imports
+abbrev pub loaded_state : Option (List ℕ) → Kept → State
+loaded_state admin kept = record { graph = kept.graph; admin = admin; lists = loaded_lists kept.imports }
 
 -- the part of a user
 abbrev pub part_of : State → List ℕ → Part
-part_of state user = record { graph = state.graph; lists = state.lists user }
+part_of state user = record { graph = state.graph; admin = state.admin; lists = state.lists user }
 
 -- lists of users, of which one user's are others
 abbrev pub lists_with : (List ℕ → UserLists) → List ℕ → UserLists → List ℕ → UserLists
 lists_with all user lists other = if bytes_eq other user then lists else all other
 
--- a state with another part for a user
+-- a state with another part for a user; the administrator never changes
 abbrev pub with_part : State → List ℕ → Part → State
-with_part state user part = record { graph = part.graph; lists = lists_with state.lists user part.lists }
-
--- two states with the same graph and the same lists for each user
-pub record SameState (a b : State) : Type 0 where
-  pub graph : a.graph ≡ b.graph
-  pub lists : (user : List ℕ) → a.lists user ≡ b.lists user
+with_part state user part = record state { graph = part.graph; lists = lists_with state.lists user part.lists }

@@ -1,5 +1,6 @@
 -- The table of steps, evaluated on a small store.
-use Rattle.std.specs.Prelude.{ℕ, pos, true, false, [], ◌∷◌, ◌++◌, codes, decimal, Option, Some, None}
+use Rattle.std.specs.Prelude.{ℕ, Bool, if◌then◌else◌, pos, true, false, [], ◌∷◌, ◌++◌, codes, decimal, List, Option, Some, None}
+use Rattle.std.specs.Str.{bytes_eq}
 use Rattle.graph_model.specs.declared.graph.Choice.TheVariants.{All}
 use Rattle.graph_model.specs.declared.graph.Orientation.TheVariants.{Natural}
 use Rattle.graph_model.specs.declared.change.Change.TheVariants as change
@@ -10,17 +11,31 @@ use Rattle.projection_spec.specs.declared.entries.Rule.TheVariants.{Keep}
 use Rattle.projection_spec.specs.WorkedRows.{key_w, type_r}
 use Rattle.graph_making.specs.declared.capture.MakeSpec.{MakeSpec}
 use Rattle.graph_making.specs.declared.capture.MakeSpec.TheVariants.{Native}
-use Rattle.graph_making.specs.Making.{BuiltFields}
+use Rattle.graph_making.specs.Making.{BuiltGraph}
 use Rattle.desk_model.specs.declared.asked.Event.{Event}
 use Rattle.desk_model.specs.declared.asked.Event.TheVariants as event
 use Rattle.desk_model.specs.declared.asked.Event.TheVariants.{Change, StoreRows, ProjectBegin, ProjectEnd, Terminate}
 use Rattle.desk_model.specs.declared.lines.GraphLine.{GraphLine}
-use Rattle.desk_model.specs.State.{Part, UserLists, no_lists}
-use Rattle.desk_model.specs.Step.{Plain, step}
+use Rattle.desk_model.specs.State.{NamedGraph, Part, State, UserLists, no_lists, part_of}
+use Rattle.desk_model.specs.Step.{Outcome, Answered, Plain, part_step, step}
 
--- a new user of an empty store
+-- the user of these rows, another, and an administrator
+abbrev pub alice : List ℕ
+alice = codes "alice"
+
+abbrev pub bob : List ℕ
+bob = codes "bob"
+
+abbrev pub root : List ℕ
+root = codes "root"
+
+-- what an event of the user comes to that no mark stands on
+abbrev pub done : Event → Part → Outcome
+done asked part = part_step Plain alice asked part
+
+-- a new user of an empty store, without an administrator
 abbrev pub nothing_kept : Part
-nothing_kept = record { graph = empty_graph; lists = no_lists }
+nothing_kept = record { graph = empty_graph; admin = None; lists = no_lists }
 
 -- the small store is made under an import id
 abbrev pub import_small_store : Event
@@ -32,7 +47,7 @@ imported_lists = record no_lists { imports = (codes "i1", Created 0 6 0 6) ∷ [
 
 -- the part of that user
 abbrev pub imported : Part
-imported = record { graph = small_store; lists = imported_lists }
+imported = record { graph = small_store; admin = None; lists = imported_lists }
 
 -- the key d of two nodes is set
 abbrev pub set_two : Event
@@ -58,7 +73,7 @@ every_element = Native (record { nodes = every_node ∷ []; rels = type_r Natura
 
 -- the part of a user of the small store who has kept nothing
 abbrev pub small_part : Part
-small_part = record { graph = small_store; lists = no_lists }
+small_part = record { graph = small_store; admin = None; lists = no_lists }
 
 -- a job begins that makes a graph named g
 abbrev pub begin_g : Event
@@ -66,14 +81,14 @@ begin_g = ProjectBegin (codes "g") None every_element
 
 -- the part of the user whose job has begun
 abbrev pub making_g : Part
-making_g = (step Plain begin_g small_part).part
+making_g = (done begin_g small_part).part
 
 -- the same where all nodes were deleted since
 abbrev pub emptied : Part
 emptied = record making_g { graph = empty_graph }
 
 -- the job of a number ends, with this graph
-abbrev pub end_job : ℕ → BuiltFields → Event
+abbrev pub end_job : ℕ → BuiltGraph → Event
 end_job number built = ProjectEnd number built
 
 -- the job is asked to end
@@ -82,11 +97,11 @@ terminate = Terminate (codes "job-1")
 
 -- the part of the user whose job was asked to end
 abbrev pub asked_g : Part
-asked_g = (step Plain terminate making_g).part
+asked_g = (done terminate making_g).part
 
 -- the part of the user whose graph was made
-abbrev pub made_g : BuiltFields → Part
-made_g built = (step Plain (end_job 1 built) making_g).part
+abbrev pub made_g : BuiltGraph → Part
+made_g built = (done (end_job 1 built) making_g).part
 
 -- what is told of the graph in a version, by a job where that is told
 abbrev pub line_g : ℕ → Option ℕ → GraphLine
@@ -95,8 +110,30 @@ line_g version (Some number) = record { name = codes "g"; nodes = 6; arcs = 6; v
 
 -- the graph is dropped
 abbrev pub drop_g : Event
-drop_g = event.Drop (codes "g") true
+drop_g = event.Drop (codes "g") true None
 
 -- the part of the user who dropped the graph, and began to make it anew
-abbrev pub making_again : BuiltFields → Part
-making_again built = (step Plain begin_g (step Plain drop_g (made_g built)).part).part
+abbrev pub making_again : BuiltGraph → Part
+making_again built = (done begin_g (done drop_g (made_g built)).part).part
+
+-- ---- an administrator
+
+-- a state with an administrator, in which one user has the graph g
+abbrev pub governed : BuiltGraph → State
+governed built = record {
+  graph = small_store;
+  admin = Some root;
+  lists = λ user. if bytes_eq user alice then (made_g built).lists else no_lists;
+}
+
+-- what an event of a user comes to in that state
+abbrev pub governed_by : List ℕ → Event → BuiltGraph → Answered
+governed_by caller asked built = step Plain caller asked (governed built)
+
+-- the user's graphs are listed, with the user named
+abbrev pub list_alice : Event
+list_alice = event.List None (Some alice)
+
+-- the user's graph is dropped, with the user named
+abbrev pub drop_alice : Event
+drop_alice = event.Drop (codes "g") true (Some alice)

@@ -1,7 +1,7 @@
 // What is asked of the desk, and what it answers.
 use crate::lines::{GraphLine, JobLine};
 use graph_making::{Built, Captured, MakeSpec};
-use graph_model::{Change as GraphChange, Choice, Column, List, Name, Refusal, Tag};
+use graph_model::{Change as GraphChange, ChangeReply, Choice, Column, List, Name, Refusal, Tag};
 
 /// What a user asks.
 #[derive(Drop)]
@@ -48,14 +48,18 @@ pub enum Event {
     Exists {
         graph: Tag,
     },
-    /// The user's graphs, or the one of a name.
+    /// The graphs of a named user, else the user's own: all, or the one of a name. Another user may be named by the
+    /// administrator alone.
     List {
         graph: Option<Tag>,
+        of: Option<Tag>,
     },
-    /// Drops the user's graph of a name. It may be asked that there must be one.
+    /// Drops the graph of a name, of a named user, else of the user. It may be asked that there must be one. Another user
+    /// may be named by the administrator alone.
     Drop {
         graph: Tag,
         must: bool,
+        of: Option<Tag>,
     },
     /// The values that a named graph has under a key, of nodes with a chosen label.
     GraphRows {
@@ -70,22 +74,8 @@ pub enum Event {
 /// What the desk answers.
 #[derive(Drop)]
 pub enum Reply {
-    /// The counters before the change, and how many nodes and relationships it made.
-    Created {
-        first_node: u32,
-        nodes: u32,
-        first_rel: u32,
-        rels: u32,
-    },
-    /// How many pairs were set.
-    Set {
-        pairs: u64,
-    },
-    /// How many nodes and relationships ceased to live.
-    Deleted {
-        nodes: u32,
-        rels: u32,
-    },
+    /// What a change of the store did.
+    Changed(ChangeReply),
     /// The values of the store's nodes, by ascending id.
     Stored(Column),
     /// The number and the name of a job that makes a graph, and what it captured.

@@ -50,7 +50,7 @@ fn serve(
     keeper: MemKeeper,
     budget: u64,
 ) -> Result<(End, MemKeeper), Stop> {
-    match Desk::start(alloc, keeper) {
+    match Desk::start(alloc, keeper, None) {
         Ok(desk) => {
             let mut desk = desk;
             let end = shell(alloc, source, sink, &mut desk, budget);

@@ -1,6 +1,5 @@
 -- Items that are answered one after another.
 use Rattle.std.proofs.Common.{◌≡◌, ◌≢◌, ◌⊎◌, inl, inr, ℕ, ◌+◌, ◌-◌, ◌^◌, ◌<◌, ◌≤◌, min, Bool, true, false, cond, List, [], ◌∷◌, ◌++◌, length, Option, Some, None, refl, sym, ap, ◌∙◌, subst, ⊎_elim, arith, append_assoc, append-nil, length-append}
-use mathlib.Core.Path.{fun_ext}
 use Rattle.std.specs.Prelude.{IsTrue, nat_lt}
 use Rattle.std.specs.List.{AllByRecursion, count_by, sum_by}
 use Rattle.std.proofs.lemmas.List.Sums.{sum_by-append, sum_by-cons}
@@ -23,9 +22,9 @@ use Rattle.desk_model.specs.declared.asked.Event.{Event}
 use Rattle.desk_model.specs.declared.asked.Event.TheVariants as event
 use Rattle.desk_model.specs.declared.call.Call.{Call}
 use Rattle.desk_model.specs.declared.call.Call.TheVariants as call
-use Rattle.desk_model.specs.State.{State, Part, UserLists, part_of, with_part, lists_with}
+use Rattle.desk_model.specs.State.{State}
 use Rattle.desk_model.specs.Replies.{PlainReply, Refused}
-use Rattle.desk_model.specs.Step.{IsStep, step, mark_of, is_fault}
+use Rattle.desk_model.specs.Step.{IsStep, mark_of, is_fault}
 use Rattle.desk_model.specs.History.{HistoryEntry, AreLegal, IsLegalEntry, Permits, own_entries, state_after, state_after_entry}
 use Rattle.desk_model.specs.Script.{IsScript, IsFormedCall}
 use Rattle.call_codec.specs.Answers.{line_answer}
@@ -194,24 +193,6 @@ permits own user (call.Create import change) formed = formed
 permits own user (call.Alter change) formed = formed
 permits own user (call.StoreRows key labels) formed = formed
 
-same_state : (s t : State) → s.graph ≡ t.graph → s.lists ≡ t.lists → s ≡ t
-same_state s t graphs lists =
-    ap (λ g. let r : State = record { graph = g; lists = s.lists } in r) graphs
-    ∙ ap (λ l. let r : State = record { graph = t.graph; lists = l } in r) lists
-
-own_lists : (a b : State) (user : List ℕ) (part : Part) → part_of b user ≡ part → ((other : List ℕ) → other ≢ user → b.lists other ≡ a.lists other) → (other : List ℕ) → b.lists other ≡ lists_with a.lists user part.lists other
-own_lists a b user part left others other =
-    ⊎_elim
-    (λ (same : bytes_eq other user ≡ true).
-    rw same (ap b.lists ((bytes_decides other user).0 same) ∙ ap (λ p. p.lists) left))
-    (λ (differs : bytes_eq other user ≡ false).
-    rw differs (others other (λ is. true≢false (sym ((bytes_decides other user).1 is) ∙ differs))))
-    (cases_Bool (bytes_eq other user))
-
-state_is : (a b : State) (user : List ℕ) (part : Part) → part_of b user ≡ part → ((other : List ℕ) → other ≢ user → b.lists other ≡ a.lists other) → b ≡ with_part a user part
-state_is a b user part left others =
-    same_state b (with_part a user part) (ap (λ p. p.graph) left) (fun_ext (own_lists a b user part left others))
-
 counts_one : (entry : HistoryEntry) (f g : ℕ) → (IsTrue entry.refused → Rose f g) → f ≤ g → Counts (entry ∷ []) f g
 counts_one entry f g rose later =
     ⊎_elim
@@ -220,8 +201,8 @@ counts_one entry f g rose later =
     (cases_Bool entry.refused)
 
 -- what the desk answers leads on by one entry
-pub applied : (user : List ℕ) (asked : Event) (reply : PlainReply) (a b : State) (f g : ℕ) → ((own : List HistoryEntry) → Permits own user asked) → IsStep asked (part_of a user) reply (part_of b user) → ((other : List ℕ) → other ≢ user → b.lists other ≡ a.lists other) → (IsTrue (is_fault (mark_of reply)) → Rose f g) → f ≤ g → Leads (shell_entry user asked reply ∷ []) a b f g
-applied user asked reply a b f g permitted is others rose later = record {
+pub applied : (user : List ℕ) (asked : Event) (reply : PlainReply) (a b : State) (f g : ℕ) → ((own : List HistoryEntry) → Permits own user asked) → IsStep user asked a reply b → (IsTrue (is_fault (mark_of reply)) → Rose f g) → f ≤ g → Leads (shell_entry user asked reply ∷ []) a b f g
+applied user asked reply a b f g permitted is rose later = record {
   legal = λ earlier. (
     record {
       permitted = permitted (own_entries 0 earlier);
@@ -232,7 +213,7 @@ applied user asked reply a b f g permitted is others rose later = record {
     tt,
   );
   own = (refl, tt);
-  state = state_is a b user (step (mark_of reply) asked (part_of a user)).part is.left others;
+  state = is.left;
   counted = counts_one (shell_entry user asked reply) f g rose later;
 }
 
@@ -299,14 +280,14 @@ line_asks line within dark =
 
 -- ---- what the desk did
 
-pub performs_call : (item : Item) (user : List ℕ) (asked : Call) (performed : Event) (reply : PlainReply) (a b : State) (f g : ℕ) → item ≡ Calls user asked → performed ≡ event_for asked → IsFormedCall asked → IsStep performed (part_of a user) reply (part_of b user) → ((other : List ℕ) → other ≢ user → b.lists other ≡ a.lists other) → (IsTrue (is_fault (mark_of reply)) → Rose f g) → f ≤ g → Performs item reply a b f g
-performs_call item user asked performed reply a b f g item_is event_is formed is others rose later =
-    let P : Event → Type 0 = λ e. IsStep e (part_of a user) reply (part_of b user) in
+pub performs_call : (item : Item) (user : List ℕ) (asked : Call) (performed : Event) (reply : PlainReply) (a b : State) (f g : ℕ) → item ≡ Calls user asked → performed ≡ event_for asked → IsFormedCall asked → IsStep user performed a reply b → (IsTrue (is_fault (mark_of reply)) → Rose f g) → f ≤ g → Performs item reply a b f g
+performs_call item user asked performed reply a b f g item_is event_is formed is rose later =
+    let P : Event → Type 0 = λ e. IsStep user e a reply b in
     let stepped = subst P event_is is in
     record {
       entries = shell_entry user (event_for asked) reply ∷ [];
       answered = rw item_is (is_script user asked reply);
-      leads = applied user (event_for asked) reply a b f g (λ own. permits own user asked formed) stepped others rose later;
+      leads = applied user (event_for asked) reply a b f g (λ own. permits own user asked formed) stepped rose later;
     }
 
 -- ---- what a sink took

@@ -1,20 +1,16 @@
 // A graph that was made of a capture.
-ghost use Rattle.std.specs.Prelude.{◌≡◌, ◌≤◌, Ok, Err, IfOk, IfErr};
-ghost use Rattle.graph_model.specs.Refusals.{UnlessMem};
-ghost use Rattle.csr_columns.specs.Plain.{plain};
-ghost use Rattle.graph_making.specs.Making.{made_of, IsMade};
+ghost use Rattle.std.specs.Prelude.{◌≡◌};
+ghost use Rattle.graph_making.specs.Making.{made_of, plain_capture, plain_made};
 
 use crate::capture::{Captured, MakeSpec};
 use csr_columns::Projection;
-use graph_model::{Mem, Refusal};
-use native_projection::project;
-use std::alloc::Global;
+use graph_model::Refusal;
 use std::marker::Model;
 use std::snapshot::Snapshot;
 
 /// The graph that a specification makes of a capture, or why it makes none.
 ///
-/// Contracts see the capture and the specification beside it; the value holds no copy of them.
+/// Contracts see the capture and the specification, which settle what was made; the value holds no copy of them.
 #[derive(Drop)]
 pub struct Built {
     from: Snapshot<Captured>,
@@ -23,43 +19,33 @@ pub struct Built {
 }
 
 impl Model for Built {
-    ghost use Rattle.graph_making.specs.Making.{BuiltFields, IsMade};
+    ghost use Rattle.std.specs.Prelude.{◌≡◌};
+    ghost use Rattle.graph_making.specs.Making.{BuiltGraph, made_of, plain_capture, plain_made};
 
-    ghost Value = { BuiltFields };
+    ghost Value = { BuiltGraph };
 
-    ghost view = { λ built. record { from = built.from.value; spec = built.spec.value; made = built.made } };
+    ghost view = { λ built. record { from = plain_capture built.from.value; spec = built.spec.value } };
 
-    ghost invariant = { λ built. IsMade built.from.value built.spec.value built.made };
+    ghost invariant = { λ built. plain_made built.made ≡ made_of (plain_capture built.from.value) built.spec.value };
 }
 
 impl Built {
-    /// Makes the graph that a specification asks for of a capture, on so many workers. What comes of it is the same for
-    /// each number of workers; a refusal is held as well as a graph.
-    ///
-    /// # Errors
-    /// `Mem` where there is no memory for it.
-    pub fn make(alloc: Global, from: &Captured, spec: &MakeSpec, workers: u32) -> Result<Built, Mem>
-        requires some { 1 ≤ workers }
-        requires few { workers ≤ 64 }
-        ensures capture { IfOk result (λ built. built.from ≡ from.now) }
-        ensures asked { IfOk result (λ built. built.spec ≡ spec.now) }
-        ensures made { IfOk result (λ built. IsMade from.now spec.now built.made) }
+    /// What a specification makes of a capture, where this is it: a refusal is held as well as a graph.
+    pub fn of(from: &Captured, spec: &MakeSpec, made: Result<Projection, Refusal>) -> Built
+        requires { plain_made made ≡ made_of (plain_capture from.now) spec.now }
+        ensures capture { result.from ≡ plain_capture from.now }
+        ensures asked { result.spec ≡ spec.now }
     {
-        let made = match make_graph(alloc, from, spec, workers) {
-            Err(Refusal::Mem) => return Err(Mem),
-            made => made,
-        };
-        Ok(Built {
+        Built {
             from: Snapshot::of(from),
             spec: Snapshot::of(spec),
             made,
-        })
+        }
     }
 
     /// The graph that was made, or why none was.
     pub fn into_result(self) -> Result<Projection, Refusal>
-        ensures value { result ≡ self.made }
-        ensures made { IsMade self.from self.spec result }
+        ensures { plain_made result ≡ made_of self.from self.spec }
     {
         let Built {
             from: _,
@@ -67,24 +53,5 @@ impl Built {
             made,
         } = self;
         made
-    }
-}
-
-// The graph that a specification asks for of a capture, or why there is none, or `Mem`.
-fn make_graph(
-    alloc: Global,
-    from: &Captured,
-    spec: &MakeSpec,
-    workers: u32,
-) -> Result<Projection, Refusal>
-    requires some { 1 ≤ workers }
-    requires few { workers ≤ 64 }
-    ensures ok { IfOk result (λ graph. made_of from.now spec.now ≡ Ok (plain graph)) }
-    ensures refused { IfErr result (λ why. UnlessMem why (made_of from.now spec.now ≡ Err why)) }
-{
-    match (from, spec) {
-        (Captured::Store(snapshot), MakeSpec::Native(spec)) => {
-            project(alloc, snapshot.get(), spec, workers)
-        }
     }
 }

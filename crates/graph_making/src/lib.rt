@@ -1,8 +1,8 @@
-//! Named graphs as jobs make them: what a job captured, what it was asked for, and what came of it.
+//! Named graphs as jobs make them: what a job captures, what it is asked for, and what came of it.
 //!
-//! `specs/Making` says what comes of a capture and a specification. `Built::make` gives exactly that for every number of
-//! workers, and every `Built` keeps that what it holds came of its capture and its specification. It runs away from the
-//! machine that hands captures out and takes built graphs, so it takes no part in the machine's steps.
+//! `specs/Making` says what comes of a capture and a specification. Contracts see captures and built graphs as plain data,
+//! and every `Built` keeps that what it holds came of its capture and its specification. The body that makes a graph stands
+//! in a crate beside, so that the machine doesn't stand on it. Nothing here takes memory but copies of a capture.
 #![tactic(auto)]
 
 mod built;

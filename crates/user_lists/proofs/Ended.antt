@@ -14,7 +14,7 @@ use Rattle.csr_columns.specs.Plain.{plain}
 use Rattle.user_catalog.specs.declared.entry.Entry.{Entry}
 use Rattle.user_catalog.specs.Catalog.{NamedGraphs, inserted, refused_graph, refused_insert, after_insert, next_entry}
 use Rattle.user_catalog.proofs.Mapped.{inserted-mapped, refused_graph-mapped}
-use Rattle.graph_making.specs.Making.{BuiltFields, made_of}
+use Rattle.graph_making.specs.Making.{BuiltGraph, PlainCapture, made_of}
 use Rattle.desk_model.specs.declared.asked.Event.TheVariants.{ProjectEnd}
 use Rattle.desk_model.specs.declared.lines.GraphLine.{GraphLine}
 use Rattle.desk_model.specs.Replies.{Made, Refused}
@@ -22,7 +22,7 @@ use Rattle.desk_model.specs.State.{Job, JobSpec, Make, NamedGraph, UserLists}
 use Rattle.desk_model.specs.Jobs.{is_numbered, job_of, jobs_without, without_job, is_asked, was_asked, graph_name, comes_of, made_for, refusal_in, termination, refused_making}
 use Rattle.desk_model.specs.Graphs.{graph_line, next_graph, with_graph}
 use Rattle.desk_model.specs.History.{is_memory}
-use Rattle.desk_model.specs.Step.{IsBuiltFor, IsBuiltForSome, refusal_of, ended_with, made_by}
+use Rattle.desk_model.specs.Step.{IsMaking, IsSomeMaking, refusal_of, ended_with, made_by}
 use Rattle.user_lists.specs.Lists.{named, shown}
 use Rattle.user_lists.specs.Steps.{IsListStep, part_with}
 use Rattle.user_lists.proofs.Steps.{IsPlain, step-done, step-refused, step-memory}
@@ -37,16 +37,16 @@ job-there lists number jobs place d are found =
 pub no-job : (lists : UserLists) (number : ℕ) (jobs : List Job) → lists.jobs ≡ jobs → position (is_numbered number) jobs ≡ None → job_of number lists ≡ None
 no-job lists number jobs are none = ap (find (is_numbered number)) are ∙ nowhere (is_numbered number) jobs none
 
-pub built-nowhere : (built : BuiltFields) (found : Option Job) → found ≡ None → IsBuiltForSome built found → ⊥
-built-nowhere built found none is = subst (IsBuiltForSome built) none is
+pub built-nowhere : (built : BuiltGraph) (found : Option Job) → found ≡ None → IsSomeMaking built.from built.spec found → ⊥
+built-nowhere built found none is = subst (IsSomeMaking built.from built.spec) none is
 
-pub built-there : (built : BuiltFields) (found : Option Job) (job : Job) → found ≡ Some job → IsBuiltForSome built found → IsBuiltFor built job
-built-there built found job there is = subst (IsBuiltForSome built) there is
+pub built-there : (built : BuiltGraph) (found : Option Job) (job : Job) → found ≡ Some job → IsSomeMaking built.from built.spec found → IsMaking built.from built.spec job
+built-there built found job there is = subst (IsSomeMaking built.from built.spec) there is
 
 -- what comes of a job is what was made of its capture
-pub comes-built : (built : BuiltFields) (job : Job) → IsBuiltFor built job → comes_of job ≡ made_of built.from built.spec
+pub comes-built : (built : BuiltGraph) (job : Job) → IsMaking built.from built.spec job → comes_of job ≡ made_of built.from built.spec
 comes-built built job is =
-    ap (made_for job.captured) is.spec ∙ ap (λ captured. made_for captured (Make (graph_name job.spec) built.spec)) is.captured
+    ap (made_for job.captured) is.asked_for ∙ ap (λ captured. made_for captured (Make (graph_name job.spec) built.spec)) is.capture
 
 pub asked-there : (lists : UserLists) (number : ℕ) (job : Job) → job_of number lists ≡ Some job → is_asked number lists ≡ job.asked
 asked-there lists number job there = ap (λ (found : Option Job). option_map_or was_asked found false) there
@@ -58,10 +58,10 @@ found-plain lists None = tt
 found-plain lists (Some job) = making-plain lists job
 
 -- the end of a job is refused
-pub end-refused : (lists new : UserLists) (number : ℕ) (built : BuiltFields) (job : Job) (why : Refusal) → job_of number lists ≡ Some job → refused_making lists job ≡ Some why → new ≡ without_job number lists → IsListStep (ProjectEnd number built) lists (Refused why) new
-end-refused lists new number built job why there refused left g =
-    step-refused (ProjectEnd number built) (part_with g lists) (part_with g new) why (found-plain lists (job_of number lists))
-    (ap (option_and_then (refused_making lists)) there ∙ refused) (ap (part_with g) left)
+pub end-refused : (lists new : UserLists) (number : ℕ) (built : BuiltGraph) (job : Job) (why : Refusal) → job_of number lists ≡ Some job → refused_making lists job ≡ Some why → new ≡ without_job number lists → IsListStep (ProjectEnd number built) lists (Refused why) new
+end-refused lists new number built job why there refused left s free =
+    step-refused s.caller (ProjectEnd number built) (part_with s lists) (part_with s new) why (found-plain lists (job_of number lists))
+    (ap (option_and_then (refused_making lists)) there ∙ refused) (ap (part_with s) left)
 
 termination-asked : (job : Job) → job.asked ≡ true → termination job ≡ Some (Terminated job.batches)
 termination-asked job asked = cond-true job.asked (Some (Terminated job.batches)) None asked
@@ -87,8 +87,8 @@ refused-name lists job made why going comes refused =
     ∙ refused
 
 -- memory was wanting for the end of a job that wasn't asked to end
-pub end-memory : (lists : UserLists) (number : ℕ) (built : BuiltFields) → is_asked number lists ≡ false → IsListStep (ProjectEnd number built) lists (Refused Mem) lists
-end-memory lists number built going g = step-memory (ProjectEnd number built) (part_with g lists) (ap not going)
+pub end-memory : (lists : UserLists) (number : ℕ) (built : BuiltGraph) → is_asked number lists ≡ false → IsListStep (ProjectEnd number built) lists (Refused Mem) lists
+end-memory lists number built going s free = step-memory s.caller (ProjectEnd number built) (part_with s lists) (ap not going)
 
 -- a refusal is want of memory, or it isn't
 pub memory-is : (why : Refusal) → is_memory why ≡ true → why ≡ Mem
@@ -102,14 +102,14 @@ not-memory other P not holds = holds
 -- ---- graphs that are kept
 
 -- a job ends with its graph
-pub end-made : (lists new : UserLists) (number : ℕ) (built : BuiltFields) (job : Job) (made : PlainProjection) (line : GraphLine) → job_of number lists ≡ Some job → job.asked ≡ false → comes_of job ≡ Ok made → refused_graph (graph_name job.spec) lists.graphs lists.last_version ≡ None → line ≡ graph_line (Some job.name) (graph_name job.spec) (next_graph made lists) → new ≡ without_job number (with_graph (graph_name job.spec) made lists) → IsListStep (ProjectEnd number built) lists (Made line) new
-end-made lists new number built job made line there going comes allowed told left g =
-    let old = part_with g lists in
+pub end-made : (lists new : UserLists) (number : ℕ) (built : BuiltGraph) (job : Job) (made : PlainProjection) (line : GraphLine) → job_of number lists ≡ Some job → job.asked ≡ false → comes_of job ≡ Ok made → refused_graph (graph_name job.spec) lists.graphs lists.last_version ≡ None → line ≡ graph_line (Some job.name) (graph_name job.spec) (next_graph made lists) → new ≡ without_job number (with_graph (graph_name job.spec) made lists) → IsListStep (ProjectEnd number built) lists (Made line) new
+end-made lists new number built job made line there going comes allowed told left s free =
+    let old = part_with s lists in
     let there_of = ap (λ (found : Option Job). (made_by number found old)) there ∙ ap (λ (m : Result PlainProjection Refusal). ended_with m number job old) comes in
-    step-done (ProjectEnd number built) old (part_with g new) (Made line)
+    step-done s.caller (ProjectEnd number built) old (part_with s new) (Made line)
     (ap (option_and_then (refused_making lists)) there ∙ refused-name lists job made None going comes allowed) refl
     (ap Made told ∙ sym (ap (λ outcome. outcome.reply) there_of))
-    (ap (part_with g) left ∙ sym (ap (λ outcome. outcome.part) there_of))
+    (ap (part_with s) left ∙ sym (ap (λ outcome. outcome.part) there_of))
 
 -- the lists afterwards, by what is kept
 pub made-shown : (catalog : NamedGraphs) (jobs : List Job) (imports : List (List ℕ × ChangeReply)) (last : ℕ) (lists : UserLists) (number : ℕ) (name : List ℕ) (parts : Parts) (left : List Job) → shown catalog jobs imports last ≡ lists → left ≡ jobs_without number jobs → shown (after_insert catalog name parts) left imports last ≡ without_job number (with_graph name (plain parts) lists)

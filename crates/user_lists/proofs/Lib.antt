@@ -6,5 +6,5 @@ pub mod JobPlaces
 pub mod Listed
 pub mod Told
 pub mod Ended
-pub mod ImportsStay
+pub mod EventLemmas
 pub mod Loaded

@@ -4,7 +4,6 @@ use Rattle.std.specs.List.{find, list_any, position, remove, slice_set}
 use Rattle.std.specs.Option.{option_map, is_some}
 use Rattle.std.proofs.lemmas.Bool.{cond-true, cond-false, le-ltb, lt-ltb}
 use Rattle.graph_model.specs.declared.change.ChangeReply.{ChangeReply}
-use Rattle.graph_model.specs.declared.graph.PropertyGraph.{PropertyGraph}
 use Rattle.graph_model.specs.declared.refusal.Refusal.{Refusal}
 use Rattle.graph_model.specs.declared.refusal.Refusal.TheVariants.{GraphExists, TooManyGraphs, NoSuchJob}
 use Rattle.graph_model.specs.Lists.{first_there}
@@ -18,7 +17,6 @@ use Rattle.desk_model.specs.Replies.{PlainReply, There, Asked, Ended, Refused}
 use Rattle.desk_model.specs.State.{Job, NamedGraph, UserLists}
 use Rattle.desk_model.specs.Jobs.{is_numbered, is_job_named, jobs_without, jobs_asked, asked_to_end, unknown_job}
 use Rattle.desk_model.specs.Graphs.{has_graph}
-use Rattle.desk_model.specs.Step.{IsStep}
 use Rattle.user_lists.specs.Lists.{named, shown}
 use Rattle.user_lists.specs.Steps.{IsListStep, part_with}
 use Rattle.user_lists.proofs.Steps.{step-done, step-refused, plain-if}
@@ -48,7 +46,7 @@ count-shown catalog jobs imports last lists is = ap (λ (l : UserLists). length 
 
 -- whether there is a graph
 pub exists-step : (lists : UserLists) (name : List ℕ) (found : Bool) → found ≡ has_graph name lists → IsListStep (event.Exists name) lists (There name found) lists
-exists-step lists name found is g = step-done (event.Exists name) (part_with g lists) (part_with g lists) (There name found) refl refl (ap (There name) is) refl
+exists-step lists name found is s free = step-done s.caller (event.Exists name) (part_with s lists) (part_with s lists) (There name found) refl refl (ap (There name) is) refl
 
 -- ---- names of graphs and their number
 
@@ -82,19 +80,19 @@ behind-two (Some x) b c is = absurd cc
 
 -- the job of a name is asked to end
 pub terminate-step : (lists new : UserLists) (name : List ℕ) (jobs : List Job) (place : ℕ) (d : Job) → lists.jobs ≡ jobs → position (is_job_named name) jobs ≡ Some place → new ≡ record lists { jobs = slice_set jobs place (asked_to_end (get_or jobs place d)) } → IsListStep (event.Terminate name) lists (Asked name) new
-terminate-step lists new name jobs place d are found is g =
+terminate-step lists new name jobs place d are found is s free =
     let first = first_of (is_job_named name) jobs place d found in
     let any : list_any (is_job_named name) lists.jobs ≡ true = ap (list_any (is_job_named name)) are ∙ any-at (is_job_named name) jobs place d first in
-    step-done (event.Terminate name) (part_with g lists) (part_with g new) (Asked name)
+    step-done s.caller (event.Terminate name) (part_with s lists) (part_with s new) (Asked name)
     (cond-true (list_any (is_job_named name) lists.jobs) None (Some (NoSuchJob name)) any) refl refl
-    (ap (part_with g) (is ∙ ap (λ (js : List Job). record lists { jobs = js }) (sym (asked-at name jobs place d first) ∙ ap (jobs_asked name) (sym are))))
+    (ap (part_with s) (is ∙ ap (λ (js : List Job). record lists { jobs = js }) (sym (asked-at name jobs place d first) ∙ ap (jobs_asked name) (sym are))))
 
 -- there is no job of a name
 pub no_job-step : (lists : UserLists) (name : List ℕ) (jobs : List Job) → lists.jobs ≡ jobs → position (is_job_named name) jobs ≡ None → IsListStep (event.Terminate name) lists (Refused (NoSuchJob name)) lists
-no_job-step lists name jobs are none g =
+no_job-step lists name jobs are none s free =
     let any : list_any (is_job_named name) lists.jobs ≡ false =
     ap (list_any (is_job_named name)) are ∙ none-found (is_job_named name) jobs (nowhere (is_job_named name) jobs none) in
-    step-refused (event.Terminate name) (part_with g lists) (part_with g lists) (NoSuchJob name)
+    step-refused s.caller (event.Terminate name) (part_with s lists) (part_with s lists) (NoSuchJob name)
     (plain-if (list_any (is_job_named name) lists.jobs) (NoSuchJob name) refl)
     (cond-false (list_any (is_job_named name) lists.jobs) None (Some (NoSuchJob name)) any) refl
 
@@ -104,7 +102,7 @@ without-there lists number jobs place d are found =
     sym (without-at number jobs place d (first_of (is_numbered number) jobs place d found)) ∙ ap (jobs_without number) (sym are)
 
 pub abandon-step : (lists new : UserLists) (number : ℕ) → new ≡ record lists { jobs = jobs_without number lists.jobs } → IsListStep (event.Abandon number) lists Ended new
-abandon-step lists new number is g = step-done (event.Abandon number) (part_with g lists) (part_with g new) Ended refl refl refl (ap (part_with g) is)
+abandon-step lists new number is s free = step-done s.caller (event.Abandon number) (part_with s lists) (part_with s new) Ended refl refl refl (ap (part_with s) is)
 
 -- ---- room
 

@@ -18,11 +18,9 @@ use Rattle.projection_spec.specs.RawArcs.{raw_arcs}
 use Rattle.projection_spec.specs.KeptArcs.{SumOut, kept_arcs}
 use Rattle.projection_spec.specs.NativeProjection.{first_refused, unknown_label, unknown_type, unknown_key, unknown_node_key, unknown_rel_key, refused_label, refused_type, refused_node_keys, refused_rel_prop, refused_rel_keys, refused_names, type_of, before_types, projected_types, within_limit, unless_refused, projection_with, projected}
 use Rattle.user_catalog.specs.Catalog.{name_taken, graphs_spent, versions_spent, refused_graph, most_graphs, greatest_version}
-use Rattle.graph_making.specs.declared.capture.Captured.{Captured}
-use Rattle.graph_making.specs.declared.capture.Captured.TheVariants.{Store}
 use Rattle.graph_making.specs.declared.capture.MakeSpec.{MakeSpec}
 use Rattle.graph_making.specs.declared.capture.MakeSpec.TheVariants.{Native}
-use Rattle.graph_making.specs.Making.{made_of}
+use Rattle.graph_making.specs.Making.{PlainCapture, Store, made_of}
 use Rattle.desk_model.specs.State.{Job, JobSpec, Make, UserLists, NamedGraph}
 use Rattle.desk_model.specs.Jobs.{job_taken, jobs_spent, numbers_spent, refused_job, is_job_named, most_jobs, greatest_job, made_for, comes_of, refusal_in, termination, refused_making, graph_name}
 use Rattle.desk_model.specs.Step.{Plain, mark_of_refusal, refused_begin}
@@ -95,10 +93,10 @@ unless-plain : (spec : SpecFields) (g : PropertyGraph) (why : Option Refusal) �
 unless-plain spec g (Some why) plain = plain
 unless-plain spec g None plain = limit-plain spec g (projected_types g spec.nodes spec.rels) (types-plain g spec.nodes spec.rels)
 
-made-plain : (captured : Captured) (spec : MakeSpec) → IsPlainResult (made_of captured spec)
+made-plain : (captured : PlainCapture) (spec : MakeSpec) → IsPlainResult (made_of captured spec)
 made-plain (Store g) (Native spec) = unless-plain spec g (refused_names spec g) (names-plain spec g)
 
-made_for-plain : (captured : Captured) (spec : JobSpec) → IsPlain (refusal_in (made_for captured spec))
+made_for-plain : (captured : PlainCapture) (spec : JobSpec) → IsPlain (refusal_in (made_for captured spec))
 made_for-plain captured (Make name spec) = in-plain (made_of captured spec) (made-plain captured spec)
   where
     in-plain : (made : Result PlainProjection Refusal) → IsPlainResult made → IsPlain (refusal_in made)

@@ -7,7 +7,7 @@ use Rattle.graph_model.specs.Refusals.{UnlessMem}
 use Rattle.desk_model.specs.declared.asked.Event.{Event}
 use Rattle.desk_model.specs.Replies.{PlainReply, Refused}
 use Rattle.desk_model.specs.State.{Part}
-use Rattle.desk_model.specs.Step.{Plain, Mark, IsStep, MayStand, step, mark_of, mark_of_refusal, refusal_of, accepted, refused_part, may_want_memory, unless_refused, Outcome}
+use Rattle.desk_model.specs.Step.{Plain, Mark, IsPartStep, MayStand, part_step, mark_of, mark_of_refusal, refusal_of, accepted, refused_part, may_want_memory, unless_refused, Outcome}
 
 -- a refusal that shows no mark, where there is one
 abbrev pub IsPlain : Option Refusal → Type 0
@@ -32,28 +32,28 @@ plain-unless true why is = is
 plain-unless false why is = tt
 
 -- an event that is refused
-pub step-refused : (event : Event) (old new : Part) (why : Refusal) → IsPlain (refusal_of event old) → refusal_of event old ≡ Some why → new ≡ refused_part event old → IsStep event old (Refused why) new
-step-refused event old new why plain refused left =
+pub step-refused : (caller : List ℕ) (event : Event) (old new : Part) (why : Refusal) → IsPlain (refusal_of caller event old) → refusal_of caller event old ≡ Some why → new ≡ refused_part event old → IsPartStep caller event old (Refused why) new
+step-refused caller event old new why plain refused left =
     let shows : mark_of_refusal why ≡ Plain = subst IsPlain refused plain in
     record {
-      mark = subst (λ (m : Mark). MayStand m event old) (sym shows) tt;
-      answer = sym (ap (λ (m : Mark). (step m event old).reply) shows ∙ ap (λ (r : Option Refusal). (unless_refused r event old).reply) refused);
-      left = left ∙ sym (ap (λ (m : Mark). (step m event old).part) shows ∙ ap (λ (r : Option Refusal). (unless_refused r event old).part) refused);
+      mark = subst (λ (m : Mark). MayStand m caller event old) (sym shows) tt;
+      answer = sym (ap (λ (m : Mark). (part_step m caller event old).reply) shows ∙ ap (λ (r : Option Refusal). (unless_refused r event old).reply) refused);
+      left = left ∙ sym (ap (λ (m : Mark). (part_step m caller event old).part) shows ∙ ap (λ (r : Option Refusal). (unless_refused r event old).part) refused);
     }
 
 -- an event for which memory was wanting
-pub step-memory : (event : Event) (old : Part) → may_want_memory event old ≡ true → IsStep event old (Refused Mem) old
-step-memory event old may = record { mark = may; answer = refl; left = refl }
+pub step-memory : (caller : List ℕ) (event : Event) (old : Part) → may_want_memory event old ≡ true → IsPartStep caller event old (Refused Mem) old
+step-memory caller event old may = record { mark = may; answer = refl; left = refl }
 
 -- an event that is refused and leaves all as it was, or for which memory was wanting
-pub step-unless : (event : Event) (old : Part) (why : Refusal) → may_want_memory event old ≡ true → IsPlain (refusal_of event old) → UnlessMem why (refusal_of event old ≡ Some why) → old ≡ refused_part event old → IsStep event old (Refused why) old
-step-unless event old Mem may plain refused stays = step-memory event old may
-step-unless event old why may plain refused stays = step-refused event old old why plain refused stays
+pub step-unless : (caller : List ℕ) (event : Event) (old : Part) (why : Refusal) → may_want_memory event old ≡ true → IsPlain (refusal_of caller event old) → UnlessMem why (refusal_of caller event old ≡ Some why) → old ≡ refused_part event old → IsPartStep caller event old (Refused why) old
+step-unless caller event old Mem may plain refused stays = step-memory caller event old may
+step-unless caller event old why may plain refused stays = step-refused caller event old old why plain refused stays
 
 -- an event that isn't refused
-pub step-done : (event : Event) (old new : Part) (reply : PlainReply) → refusal_of event old ≡ None → mark_of reply ≡ Plain → reply ≡ (accepted event old).reply → new ≡ (accepted event old).part → IsStep event old reply new
-step-done event old new reply allowed shows answer left = record {
-  mark = subst (λ (m : Mark). MayStand m event old) (sym shows) tt;
-  answer = answer ∙ sym (ap (λ (m : Mark). (step m event old).reply) shows ∙ ap (λ (r : Option Refusal). (unless_refused r event old).reply) allowed);
-  left = left ∙ sym (ap (λ (m : Mark). (step m event old).part) shows ∙ ap (λ (r : Option Refusal). (unless_refused r event old).part) allowed);
+pub step-done : (caller : List ℕ) (event : Event) (old new : Part) (reply : PlainReply) → refusal_of caller event old ≡ None → mark_of reply ≡ Plain → reply ≡ (accepted event old).reply → new ≡ (accepted event old).part → IsPartStep caller event old reply new
+step-done caller event old new reply allowed shows answer left = record {
+  mark = subst (λ (m : Mark). MayStand m caller event old) (sym shows) tt;
+  answer = answer ∙ sym (ap (λ (m : Mark). (part_step m caller event old).reply) shows ∙ ap (λ (r : Option Refusal). (unless_refused r event old).reply) allowed);
+  left = left ∙ sym (ap (λ (m : Mark). (part_step m caller event old).part) shows ∙ ap (λ (r : Option Refusal). (unless_refused r event old).part) allowed);
 }

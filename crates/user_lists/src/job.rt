@@ -1,12 +1,13 @@
 // One job of a user.
-ghost use Rattle.std.specs.Prelude.{◌≡◌, position, IfOk};
+ghost use Rattle.std.specs.Prelude.{◌≡◌, map, position, IfOk};
 ghost use Rattle.std.specs.List.{list_any};
+ghost use Rattle.graph_making.specs.Making.{plain_capture};
 ghost use Rattle.desk_model.specs.State.{Make};
 ghost use Rattle.desk_model.specs.Jobs.{is_numbered, is_job_named, new_job, next_job_name, job_line};
 
 use desk_model::{JobKind, JobLine};
 use graph_making::{Captured, MakeSpec};
-use graph_model::{Mem, Tag, TryClone};
+use graph_model::{List, Mem, Tag, TryClone};
 use std::alloc::Global;
 use std::marker::Model;
 use std::snapshot::Snapshot;
@@ -24,12 +25,13 @@ pub struct Job {
 }
 
 impl Model for Job {
+    ghost use Rattle.graph_making.specs.Making.{plain_capture};
     ghost use Rattle.desk_model.specs.State.{Job, Make};
     ghost use Rattle.desk_model.specs.Jobs.{new_job};
 
     ghost Value = { Job };
 
-    ghost view = { λ job. record (new_job job.number job.name job.captured.value (Make job.graph job.spec.value)) { asked = job.asked } };
+    ghost view = { λ job. record (new_job job.number job.name (plain_capture job.captured.value) (Make job.graph job.spec.value)) { asked = job.asked } };
 }
 
 impl Job {
@@ -41,7 +43,7 @@ impl Job {
         captured: &Captured,
         spec: &MakeSpec,
     ) -> Job
-        ensures { result ≡ new_job number name captured.now (Make graph spec.now) }
+        ensures { result ≡ new_job number name (plain_capture captured.now) (Make graph spec.now) }
     {
         Job {
             number,
@@ -113,4 +115,18 @@ fn numbered_name(alloc: Global, number: u32) -> Result<Tag, Mem>
         Ok(name) => Ok(name),
         Err(_) => Err(Mem),
     }
+}
+
+/// What is told of each job.
+///
+/// # Errors
+/// `Mem` where there is no memory for it.
+pub(crate) fn lines_of(alloc: Global, jobs: &[Job]) -> Result<List<JobLine>, Mem>
+    ensures { IfOk result (λ lines. lines ≡ map job_line jobs.now) }
+{
+    let mut lines = List::new(alloc);
+    for job in jobs {
+        lines.push(job.line()?)?;
+    }
+    Ok(lines)
 }

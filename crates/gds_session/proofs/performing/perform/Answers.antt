@@ -8,7 +8,7 @@ pub returns-in-Ok : goal.returns-in-Ok
 returns-in-Ok g c =
     performs_call (line_item c.args.line.now) c.in-Ok.user c.in-Ok.call c.asked_by.result.event (plain_reply c.apply.result)
     (state_of c.args.desk.now) (state_of c.apply.new.self) (g.K.Keeper.faults c.args.desk.now.keeper) (g.K.Keeper.faults c.apply.new.self.keeper)
-    c.in-Ok.ensures.ok c.asked_by.ensures.event c.in-Ok.ensures.formed (rw c.asked_by.ensures.user at c.apply.ensures.step) (rw c.asked_by.ensures.user at c.apply.ensures.others) c.apply.ensures.fault c.apply.ensures.later
+    c.in-Ok.ensures.ok c.asked_by.ensures.event c.in-Ok.ensures.formed (rw c.asked_by.ensures.user at c.apply.ensures.step) c.apply.ensures.fault c.apply.ensures.later
 
 pub returns-in-Err : goal.returns-in-Err
 returns-in-Err g c =

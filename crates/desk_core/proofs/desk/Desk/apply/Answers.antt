@@ -1,50 +1,56 @@
 use Rattle.std.proofs.Common.{refl}
-use Rattle.user_lists.proofs.ImportsStay.{end_stays, abandon_stays, terminate_stays, drop_stays}
-use Rattle.desk_core.proofs.GraphSteps.{without-fault}
-use Rattle.desk_core.proofs.ToldLemmas.{stays}
+use Rattle.desk_model.specs.declared.asked.Event.TheVariants as event
+use Rattle.desk_model.specs.Replies.{plain_reply}
+use Rattle.desk_core.specs.Fields.{state_of}
+use Rattle.desk_core.proofs.StateSteps.{calm_fault, list_step}
 use Rattle.desk_core.proofs.desk.Desk.apply.Goals as goal
 
+pub returns-in-ProjectEnd-clause-step : goal.returns-in-ProjectEnd-clause-step
+returns-in-ProjectEnd-clause-step g c =
+    rw c.in-ProjectEnd.is
+    (list_step c.args.self.now c.perform.new.self c.args.asked.user c.args.asked.user (event.ProjectEnd c.in-ProjectEnd.job c.in-ProjectEnd.built) (plain_reply c.perform.result) refl refl c.perform.ensures.kept c.perform.ensures.others c.perform.ensures.step)
+
 pub returns-in-ProjectEnd-clause-fault : goal.returns-in-ProjectEnd-clause-fault
-returns-in-ProjectEnd-clause-fault g c = without-fault _ _ _ _ _ (c.end_making.ensures.step c.self.inside.store) refl
+returns-in-ProjectEnd-clause-fault g c =
+    calm_fault c.args.asked.user (event.ProjectEnd c.in-ProjectEnd.job c.in-ProjectEnd.built) (state_of c.args.self.now) (state_of c.perform.new.self) (plain_reply c.perform.result) _ _
+    (list_step c.args.self.now c.perform.new.self c.args.asked.user c.args.asked.user (event.ProjectEnd c.in-ProjectEnd.job c.in-ProjectEnd.built) (plain_reply c.perform.result) refl refl c.perform.ensures.kept c.perform.ensures.others c.perform.ensures.step) refl
+
+pub returns-in-Abandon-clause-step : goal.returns-in-Abandon-clause-step
+returns-in-Abandon-clause-step g c =
+    rw c.in-Abandon.is
+    (list_step c.args.self.now c.perform-in-Abandon.new.self c.args.asked.user c.args.asked.user (event.Abandon c.in-Abandon.job) (plain_reply c.perform-in-Abandon.result) refl refl c.perform-in-Abandon.ensures.kept c.perform-in-Abandon.ensures.others c.perform-in-Abandon.ensures.step)
 
 pub returns-in-Abandon-clause-fault : goal.returns-in-Abandon-clause-fault
-returns-in-Abandon-clause-fault g c = without-fault _ _ _ _ _ (c.abandon.ensures.step c.self-in-Abandon.inside.store) refl
+returns-in-Abandon-clause-fault g c =
+    calm_fault c.args.asked.user (event.Abandon c.in-Abandon.job) (state_of c.args.self.now) (state_of c.perform-in-Abandon.new.self) (plain_reply c.perform-in-Abandon.result) _ _
+    (list_step c.args.self.now c.perform-in-Abandon.new.self c.args.asked.user c.args.asked.user (event.Abandon c.in-Abandon.job) (plain_reply c.perform-in-Abandon.result) refl refl c.perform-in-Abandon.ensures.kept c.perform-in-Abandon.ensures.others c.perform-in-Abandon.ensures.step) refl
+
+pub returns-in-Terminate-clause-step : goal.returns-in-Terminate-clause-step
+returns-in-Terminate-clause-step g c =
+    rw c.in-Terminate.is
+    (list_step c.args.self.now c.perform-in-Terminate.new.self c.args.asked.user c.args.asked.user (event.Terminate c.in-Terminate.job) (plain_reply c.perform-in-Terminate.result) refl refl c.perform-in-Terminate.ensures.kept c.perform-in-Terminate.ensures.others c.perform-in-Terminate.ensures.step)
 
 pub returns-in-Terminate-clause-fault : goal.returns-in-Terminate-clause-fault
-returns-in-Terminate-clause-fault g c = without-fault _ _ _ _ _ (c.terminate.ensures.step c.self-in-Terminate.inside.store) refl
+returns-in-Terminate-clause-fault g c =
+    calm_fault c.args.asked.user (event.Terminate c.in-Terminate.job) (state_of c.args.self.now) (state_of c.perform-in-Terminate.new.self) (plain_reply c.perform-in-Terminate.result) _ _
+    (list_step c.args.self.now c.perform-in-Terminate.new.self c.args.asked.user c.args.asked.user (event.Terminate c.in-Terminate.job) (plain_reply c.perform-in-Terminate.result) refl refl c.perform-in-Terminate.ensures.kept c.perform-in-Terminate.ensures.others c.perform-in-Terminate.ensures.step) refl
+
+pub returns-in-Exists-clause-step : goal.returns-in-Exists-clause-step
+returns-in-Exists-clause-step g c =
+    rw c.in-Exists.is
+    (list_step c.args.self.now c.perform-in-Exists.new.self c.args.asked.user c.args.asked.user (event.Exists c.in-Exists.graph) (plain_reply c.perform-in-Exists.result) refl refl c.perform-in-Exists.ensures.kept c.perform-in-Exists.ensures.others c.perform-in-Exists.ensures.step)
 
 pub returns-in-Exists-clause-fault : goal.returns-in-Exists-clause-fault
-returns-in-Exists-clause-fault g c = without-fault _ _ _ _ _ (c.exists.ensures c.self-in-Exists.inside.store) refl
+returns-in-Exists-clause-fault g c =
+    calm_fault c.args.asked.user (event.Exists c.in-Exists.graph) (state_of c.args.self.now) (state_of c.perform-in-Exists.new.self) (plain_reply c.perform-in-Exists.result) _ _
+    (list_step c.args.self.now c.perform-in-Exists.new.self c.args.asked.user c.args.asked.user (event.Exists c.in-Exists.graph) (plain_reply c.perform-in-Exists.result) refl refl c.perform-in-Exists.ensures.kept c.perform-in-Exists.ensures.others c.perform-in-Exists.ensures.step) refl
 
-pub returns-in-List-clause-fault : goal.returns-in-List-clause-fault
-returns-in-List-clause-fault g c = without-fault _ _ _ _ _ (c.list.ensures c.self-in-List.inside.store) refl
-
-pub returns-in-Drop-clause-fault : goal.returns-in-Drop-clause-fault
-returns-in-Drop-clause-fault g c = without-fault _ _ _ _ _ (c.drop_graph.ensures.step c.self-in-Drop.inside.store) refl
+pub returns-clause-step : goal.returns-clause-step
+returns-clause-step g c =
+    rw c.in-Jobs.is
+    (list_step c.args.self.now c.perform-in-Jobs.new.self c.args.asked.user c.args.asked.user (event.Jobs) (plain_reply c.perform-in-Jobs.result) refl refl c.perform-in-Jobs.ensures.kept c.perform-in-Jobs.ensures.others c.perform-in-Jobs.ensures.step)
 
 pub returns-clause-fault : goal.returns-clause-fault
-returns-clause-fault g c = without-fault _ _ _ _ _ (c.jobs.ensures c.self-in-Jobs.inside.store) refl
-
-pub invariant_of-self : goal.invariant_of-self
-invariant_of-self g c = stays _ _ _ _ c.self.invariant (end_stays _ _ _ _ _ _ c.end_making.ensures.step c.end_making.ensures.others)
-
-pub returns-in-ProjectEnd-clause-told : goal.returns-in-ProjectEnd-clause-told
-returns-in-ProjectEnd-clause-told g c = stays _ _ _ _ c.self.invariant (end_stays _ _ _ _ _ _ c.end_making.ensures.step c.end_making.ensures.others)
-
-pub invariant_of-self-in-Abandon : goal.invariant_of-self-in-Abandon
-invariant_of-self-in-Abandon g c = stays _ _ _ _ c.self-in-Abandon.invariant (abandon_stays _ _ _ _ _ c.abandon.ensures.step c.abandon.ensures.others)
-
-pub returns-in-Abandon-clause-told : goal.returns-in-Abandon-clause-told
-returns-in-Abandon-clause-told g c = stays _ _ _ _ c.self-in-Abandon.invariant (abandon_stays _ _ _ _ _ c.abandon.ensures.step c.abandon.ensures.others)
-
-pub invariant_of-self-in-Terminate : goal.invariant_of-self-in-Terminate
-invariant_of-self-in-Terminate g c = stays _ _ _ _ c.self-in-Terminate.invariant (terminate_stays _ _ _ _ _ c.terminate.ensures.step c.terminate.ensures.others)
-
-pub returns-in-Terminate-clause-told : goal.returns-in-Terminate-clause-told
-returns-in-Terminate-clause-told g c = stays _ _ _ _ c.self-in-Terminate.invariant (terminate_stays _ _ _ _ _ c.terminate.ensures.step c.terminate.ensures.others)
-
-pub invariant_of-self-in-Drop : goal.invariant_of-self-in-Drop
-invariant_of-self-in-Drop g c = stays _ _ _ _ c.self-in-Drop.invariant (drop_stays _ _ _ _ _ _ c.drop_graph.ensures.step c.drop_graph.ensures.others)
-
-pub returns-in-Drop-clause-told : goal.returns-in-Drop-clause-told
-returns-in-Drop-clause-told g c = stays _ _ _ _ c.self-in-Drop.invariant (drop_stays _ _ _ _ _ _ c.drop_graph.ensures.step c.drop_graph.ensures.others)
+returns-clause-fault g c =
+    calm_fault c.args.asked.user (event.Jobs) (state_of c.args.self.now) (state_of c.perform-in-Jobs.new.self) (plain_reply c.perform-in-Jobs.result) _ _
+    (list_step c.args.self.now c.perform-in-Jobs.new.self c.args.asked.user c.args.asked.user (event.Jobs) (plain_reply c.perform-in-Jobs.result) refl refl c.perform-in-Jobs.ensures.kept c.perform-in-Jobs.ensures.others c.perform-in-Jobs.ensures.step) refl

@@ -49,6 +49,6 @@ returns-in-Err c =
     let going = ap (λ (j : Job). j.asked) (sym c.behind-self.view_is) ∙ c.if-index.false in
     let is = built-there c.args.built (job_of c.args.number lists) job there c.requires in
     end-refused lists _ c.args.number c.args.built job c.in-Err.why there
-    (refused-making lists job c.in-Err.why going (comes-built c.args.built job is ∙ c.in-Err.ensures.made))
+    (refused-making lists job c.in-Err.why going (comes-built c.args.built job is ∙ sym c.in-Err.ensures))
     (jobs-shown inside.graphs jobs inside.imports.entries inside.last_job lists c.args.number c.remove-in-Err.new.self.items c.self.view_is
     (c.remove-in-Err.ensures.items ∙ left-at c.args.number jobs c.in-Some.place c.remove-in-Err.result found))

@@ -1,2 +1,0 @@
--- What follows of a desk between whose events no job goes on.
-mod IdleLemmas
