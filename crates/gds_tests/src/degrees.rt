@@ -2,7 +2,7 @@
 ghost use Rattle.std.specs.Prelude.{◌≡◌, [], ◌∷◌, length, IfOk};
 ghost use Rattle.csr_columns.specs.Parts.{FitTogether, HasNodes, arcs_in_rows, kind_of};
 
-use crate::gates::Counting;
+use crate::gates::{Counting, Waiting};
 use csr_columns::{Csr, Parts, Projection, TypeColumns, View};
 use graph_model::{Choice, List, Name, Orientation, Shared};
 use par_degree::DegreeRun;
@@ -50,5 +50,14 @@ fn parts_of_a_step_enter(rt: HostRuntime) -> Result<(), Fail> {
     run.advance(&rt, 4, &gate)?;
     assert_eq!(rt; gate.entries.load(Ordering::SeqCst), 3);
     assert_eq!(rt; gate.numbers.load(Ordering::SeqCst), 6);
+    Ok(())
+}
+
+#[test]
+fn two_parts_of_a_step_run_at_once(rt: HostRuntime) -> Result<(), Fail> {
+    let mut run = DegreeRun::start(rt.alloc(), view(rt.alloc())?)?;
+    let gate = Waiting::new();
+    run.advance(&rt, 2, &gate)?;
+    assert_eq!(rt; gate.met.load(Ordering::SeqCst), 1);
     Ok(())
 }

@@ -70,9 +70,18 @@ impl Gate for Counting {
 
 /// A gate in which part 1 waits until part 2 has come, for a while.
 #[derive(Drop)]
-struct Waiting {
+pub(crate) struct Waiting {
     come: AtomicU64,
-    met: AtomicU64,
+    pub(crate) met: AtomicU64,
+}
+
+impl Waiting {
+    pub(crate) fn new() -> Waiting {
+        Waiting {
+            come: AtomicU64::new(0),
+            met: AtomicU64::new(0),
+        }
+    }
 }
 
 impl Gate for Waiting {
@@ -97,7 +106,7 @@ fn parts_with_frontier_enter(rt: HostRuntime) -> Result<(), Mem> {
     let mut rounds = Rounds::start(rt.alloc(), Falling, first)?;
     for (entries, numbers) in [(3, 6), (1, 3), (1, 3), (0, 0)] {
         let gate = Counting::new();
-        rounds.advance(&rt, 3, &gate);
+        rounds.advance(&rt, 4, &gate);
         assert_eq!(rt; gate.entries.load(Ordering::SeqCst), entries);
         assert_eq!(rt; gate.numbers.load(Ordering::SeqCst), numbers);
     }
@@ -108,10 +117,7 @@ fn parts_with_frontier_enter(rt: HostRuntime) -> Result<(), Mem> {
 fn two_parts_run_at_once(rt: HostRuntime) -> Result<(), Mem> {
     let first = Vec::from_slice(rt.alloc(), &[1, 1, 1, 1, 1, 1])?;
     let mut rounds = Rounds::start(rt.alloc(), Falling, first)?;
-    let gate = Waiting {
-        come: AtomicU64::new(0),
-        met: AtomicU64::new(0),
-    };
+    let gate = Waiting::new();
     rounds.advance(&rt, 2, &gate);
     assert_eq!(rt; gate.met.load(Ordering::SeqCst), 1);
     Ok(())
