@@ -17,4 +17,19 @@ impl Meter {
         }
         Ok(())
     }
+
+    /// Tells the same of a piece of work that was done by so many workers.
+    pub(crate) fn tell_by(
+        &self,
+        rt: &HostRuntime,
+        work: &str,
+        workers: u32,
+        start: Instant,
+    ) -> Result<(), Stop> {
+        let took = start.elapsed(rt)?;
+        if self.on {
+            eprintln!(rt; "{work}-{workers} {}", took.as_micros())?;
+        }
+        Ok(())
+    }
 }

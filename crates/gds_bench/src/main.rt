@@ -1,24 +1,33 @@
 //! Pieces of work to be timed, each on a graph by a fixed recurrence.
 //!
 //! The words are cases, each with a number of nodes and of arcs, and perhaps `times` behind them: `rows` for rows of arcs,
-//! `project` for a projection of a store, `groups` for one that groups arcs by each rule. The results go to standard
-//! output. With `times` the microseconds of each call go to standard error, by a clock around the call alone; a file in
-//! `bench/` runs the same work in plain Rust beside it. Nothing is claimed of a case but that it is safe and returns.
+//! `project` for a projection of a store, `groups` for one that groups arcs by each rule, `rounds` for rounds over arcs,
+//! `frontiers` for rounds over a frontier of one node (its second number is how many), `degrees` for the degrees of a view. The
+//! results go to standard output. With `times` the microseconds of each call go to standard error, by a clock around the call
+//! alone; a file in `bench/` runs the same work in plain Rust beside it. Nothing is claimed of a case but that it is safe and
+//! returns.
 #![tactic(auto)]
 
 mod clock;
+mod degrees;
+mod falling;
+mod frontiers;
 mod graph;
 mod groups;
+mod least;
 mod project;
+mod rounds;
 mod rows;
 mod stop;
 mod told;
+mod workers;
 
 use crate::clock::Meter;
 use crate::stop::Stop;
 use graph_model::List;
 use std::env;
 use std::process::ExitCode;
+use std::thread::Threads;
 
 /// A piece of work.
 #[derive(Clone, Copy, Debug, PartialEq, Eq)]
@@ -26,6 +35,9 @@ enum Work {
     Rows,
     Project,
     Groups,
+    Rounds,
+    Frontiers,
+    Degrees,
 }
 
 /// A piece of work, and the size of its graph.
@@ -69,6 +81,9 @@ fn read_case(work: &str, nodes: &str, arcs: &str) -> Result<Case, Stop> {
         "rows" => Work::Rows,
         "project" => Work::Project,
         "groups" => Work::Groups,
+        "rounds" => Work::Rounds,
+        "frontiers" => Work::Frontiers,
+        "degrees" => Work::Degrees,
         _ => return Err(Stop::Words),
     };
     Ok(Case {
@@ -86,19 +101,22 @@ fn number(word: &str) -> Result<u32, Stop> {
 }
 
 fn main(rt: HostRuntime) -> ExitCode {
-    match run(&rt) {
+    match run(&rt, &rt) {
         Ok(()) => ExitCode::SUCCESS,
         Err(stop) => ExitCode::from(stop.status()),
     }
 }
 
-fn run(rt: &HostRuntime) -> Result<(), Stop> {
+fn run<R: Threads + Sync>(rt: &HostRuntime, threads: &R) -> Result<(), Stop> {
     let plan = read_words(rt)?;
     for case in plan.cases.as_slice() {
         match case.work {
             Work::Rows => rows::run(rt, case.nodes, case.arcs, &plan.meter)?,
             Work::Project => project::run(rt, case.nodes, case.arcs, &plan.meter)?,
             Work::Groups => groups::run(rt, case.nodes, case.arcs, &plan.meter)?,
+            Work::Rounds => rounds::run(rt, threads, case.nodes, case.arcs, &plan.meter)?,
+            Work::Frontiers => frontiers::run(rt, threads, case.nodes, case.arcs, &plan.meter)?,
+            Work::Degrees => degrees::run(rt, threads, case.nodes, case.arcs, &plan.meter)?,
         }
     }
     Ok(())

@@ -1,5 +1,5 @@
 // Rows of arcs: built, reversed and viewed.
-ghost use Rattle.std.specs.Prelude.{◌≡◌, ◌+◌, ◌<◌, ◌≤◌, length, map, All, IfOk};
+ghost use Rattle.std.specs.Prelude.{◌≡◌, ◌+◌, ◌<◌, ◌≤◌, length, map, All, IfOk, OnOk};
 ghost use Rattle.graph_model.specs.Lists.{Pairwise};
 ghost use Rattle.graph_model.specs.Names.{IsBefore};
 ghost use Rattle.graph_model.specs.Projection.{most_arcs};
@@ -9,7 +9,7 @@ use crate::clock::Meter;
 use crate::graph;
 use crate::stop::Stop;
 use crate::told::tell;
-use csr_columns::{Csr, Parts, Projection, TypeColumns};
+use csr_columns::{Csr, Parts, Projection, TypeColumns, View};
 use graph_model::{Choice, List, Name, Orientation, Shared, TryClone};
 use std::alloc::Global;
 use std::time::Instant;
@@ -26,10 +26,7 @@ pub(crate) fn run(rt: &HostRuntime, nodes: u32, arcs: u32, meter: &Meter) -> Res
     }
     let arcs = graph::sorted_arcs(rt.alloc(), nodes, arcs)?;
     mirror(rt, nodes, graph::both_ways(rt.alloc(), &arcs)?, meter)?;
-    let (ends, values) = graph::apart(rt.alloc(), &arcs)?;
-    drop(arcs);
-    let rows = build(rt, "build", nodes, &ends, values, meter)?;
-    drop(ends);
+    let rows = rows_of(rt, "build", nodes, arcs, meter)?;
     reverse(rt, "reverse", &rows, meter)?;
     views(rt, &Shared::new(rt.alloc(), rows)?, meter)
 }
@@ -41,14 +38,24 @@ fn mirror(
     arcs: Vec<(u32, u32, i64)>,
     meter: &Meter,
 ) -> Result<(), Stop> {
-    let (ends, values) = graph::apart(rt.alloc(), &arcs)?;
-    drop(arcs);
-    let rows = build(rt, "both", nodes, &ends, values, meter)?;
-    drop(ends);
+    let rows = rows_of(rt, "both", nodes, arcs, meter)?;
     reverse(rt, "mirror", &rows, meter)
 }
 
-// The rows of arcs that ascend.
+/// The rows of arcs that ascend, each with its value.
+pub(crate) fn rows_of(
+    rt: &HostRuntime,
+    work: &str,
+    nodes: u32,
+    arcs: Vec<(u32, u32, i64)>,
+    meter: &Meter,
+) -> Result<Csr, Stop> {
+    let (ends, values) = graph::apart(rt.alloc(), &arcs)?;
+    drop(arcs);
+    build(rt, work, nodes, &ends, values, meter)
+}
+
+// The same of arcs and their values apart.
 fn build(
     rt: &HostRuntime,
     work: &str,
@@ -83,6 +90,18 @@ fn reverse(rt: &HostRuntime, work: &str, csr: &Csr, meter: &Meter) -> Result<(),
 
 // The views of all nodes, and of one type or two with the same rows.
 fn views(rt: &HostRuntime, rows: &Shared<Csr>, meter: &Meter) -> Result<(), Stop> {
+    let nodes = within_limits(rows)?;
+    let one = projection(rt.alloc(), nodes, one_type(rt.alloc(), rows)?)?;
+    view(rt, "view", &one, meter)?;
+    let two = projection(rt.alloc(), nodes, two_types(rt.alloc(), rows)?)?;
+    view(rt, "merge", &two, meter)
+}
+
+// How many nodes there are, where a projection of two types with these rows is within the limits.
+fn within_limits(rows: &Shared<Csr>) -> Result<u32, Stop>
+    ensures nodes { IfOk result (λ nodes. (nodes ≡ length rows.now.rows) × (nodes ≤ MOST_NODES)) }
+    ensures few { OnOk result (arcs_in_rows rows.now + arcs_in_rows rows.now ≤ most_arcs) }
+{
     let nodes = rows.get().node_count();
     if nodes > MOST_NODES {
         return Err(Stop::Limit);
@@ -90,10 +109,7 @@ fn views(rt: &HostRuntime, rows: &Shared<Csr>, meter: &Meter) -> Result<(), Stop
     if rows.get().arc_count() > MOST_ARCS / 2 {
         return Err(Stop::Limit);
     }
-    let one = projection(rt.alloc(), nodes, one_type(rt.alloc(), rows)?)?;
-    view(rt, "view", &one, meter)?;
-    let two = projection(rt.alloc(), nodes, two_types(rt.alloc(), rows)?)?;
-    view(rt, "merge", &two, meter)
+    Ok(nodes)
 }
 
 // A type with these rows.
@@ -156,4 +172,13 @@ fn view(rt: &HostRuntime, work: &str, projection: &Projection, meter: &Meter) ->
     let view = projection.view(rt.alloc(), &Choice::All, &Choice::All, Some(&key))?;
     meter.tell(rt, work, start)?;
     tell(rt, work, view.arcs())
+}
+
+/// The view of all nodes of these rows and of their one type, with weights where they are wanted.
+pub(crate) fn one_view(alloc: Global, rows: &Shared<Csr>, weighted: bool) -> Result<View, Stop> {
+    let nodes = within_limits(rows)?;
+    let one = projection(alloc, nodes, one_type(alloc, rows)?)?;
+    let key = Name::read(alloc, b"w")?;
+    let key = if weighted { Some(&key) } else { None };
+    Ok(one.view(alloc, &Choice::All, &Choice::All, key)?)
 }

@@ -1,0 +1,3 @@
+-- A kernel whose values are lowered along arcs.
+pub mod Least
+pub mod LeastLaws
