@@ -7,7 +7,8 @@
   bench/gate.py --log FILE  reads such a log in place of running
 
 Each line of the log begins with the minutes and seconds since the start. Processor time is sampled once a second from
-/proc (Linux): of a crate's own proof, of its tests, of the check that its must-fail edits begin with, and of the edits.
+/proc (Linux): of a crate's own proof, of its tests, of the check that its must-fail edits begin with, of the edits, and of
+the building of its library or program.
 A log without samples gives for each crate only the minute at which it had passed and how long that was behind the last
 crate below it. The longest chain is that of crates.txt whose crates took longest by the clock, one after another.
 """
@@ -22,7 +23,7 @@ import tempfile
 import threading
 import time
 
-KINDS = ("proof", "tests", "before edits", "edits")
+KINDS = ("proof", "tests", "before edits", "edits", "build")
 TICKS = os.sysconf("SC_CLK_TCK")
 
 
@@ -36,7 +37,9 @@ def seconds_of(text):
 
 
 def kind_of(words):
-    """Which part of the gate a check of the prover belongs to."""
+    """Which part of the gate a check or a build of the prover belongs to."""
+    if words[1] == "build":
+        return "build"
     if "--test" in words:
         return "tests"
     kept = next((after for word, after in zip(words, words[1:]) if word == "--incremental"), "")
@@ -57,7 +60,7 @@ def processes(session):
                 words = it.read().decode(errors="replace").split("\0")
         except (OSError, ValueError, IndexError):
             continue
-        if "--crate-name" in words[:-1] and "check" in words:
+        if "--crate-name" in words[:-1] and words[1] in ("check", "build"):
             yield (pid, fields[19]), words, (int(fields[11]) + int(fields[12])) / TICKS
 
 
