@@ -56,8 +56,11 @@ answered (Some id) answer lists room valid = record {
   versions = valid.versions;
   issued = valid.issued;
   imports = placed-ascends entry_order entry_order_total (id, answer) lists.imports valid.imports;
-  few = omega (arith, length-placed entry_order entry_order_total (id, answer) lists.imports valid.imports,
-      ltb-true (length lists.imports) most_imports (passes-of (nat_lt (length lists.imports) most_imports) (CounterSpent Imports most_imports) room));
+  few = omega (
+    arith,
+    length-placed entry_order entry_order_total (id, answer) lists.imports valid.imports,
+    ltb-true (length lists.imports) most_imports (passes-of (nat_lt (length lists.imports) most_imports) (CounterSpent Imports most_imports) room),
+  );
 }
 
 -- ---- a job begins
@@ -90,14 +93,15 @@ others-named name (job ∷ jobs) none =
 -- and than one that the machine gives now
 others-numbered : (last : ℕ) (jobs : List Job) → last + 1 ≤ greatest_job → AllByRecursion (IsNumberGiven last) jobs → AllByRecursion HasOwnName jobs → AllByRecursion (λ job. job.name ≢ next_job_name None (last + 1)) jobs
 others-numbered last [] most given own = tt
-others-numbered last (job ∷ jobs) most given own =
-    (⊎_elim
-    (λ (was_given : IsGivenName (Some job.name)) (same : job.name ≡ next_job_name None (last + 1)).
-    true≢false (sym (ap (λ (name : List ℕ). starts_with ◌==◌ name (codes "job-")) same ∙ looks-given (last + 1)) ∙ was_given))
-    (λ (numbered : job.name ≡ next_job_name None job.number) (same : job.name ≡ next_job_name None (last + 1)).
-    numbers-apart job.number (last + 1) (omega (arith, given.0)) most (sym numbered ∙ same))
-    own.0,
-    others-numbered last jobs most given.1 own.1)
+others-numbered last (job ∷ jobs) most given own = (
+  ⊎_elim
+      (λ (was_given : IsGivenName (Some job.name)) (same : job.name ≡ next_job_name None (last + 1)).
+      true≢false (sym (ap (λ (name : List ℕ). starts_with ◌==◌ name (codes "job-")) same ∙ looks-given (last + 1)) ∙ was_given))
+      (λ (numbered : job.name ≡ next_job_name None job.number) (same : job.name ≡ next_job_name None (last + 1)).
+      numbers-apart job.number (last + 1) (omega (arith, given.0)) most (sym numbered ∙ same))
+      own.0,
+  others-numbered last jobs most given.1 own.1,
+)
 
 module _ (graph : List ℕ) (name : Option (List ℕ)) (spec : MakeSpec) (captured : PlainCapture) (lists : UserLists) (formed : IsGivenName name) (free : refused_begin graph name lists ≡ None) (valid : IsValidLists lists) where
   abbrev job : Job

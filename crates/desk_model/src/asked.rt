@@ -79,24 +79,15 @@ pub enum Reply {
     /// The values of the store's nodes, by ascending id.
     Stored(Column),
     /// The number and the name of a job that makes a graph, and what it captured.
-    Making {
-        job: u32,
-        name: Tag,
-        from: Captured,
-    },
+    Making { job: u32, name: Tag, from: Captured },
     /// The graph that a job made, with the job's name.
     Made(GraphLine),
     /// The job ended.
     Ended,
     /// The job of this name was asked to end.
-    Asked {
-        job: Tag,
-    },
+    Asked { job: Tag },
     /// Whether there is a graph of this name.
-    There {
-        graph: Tag,
-        found: bool,
-    },
+    There { graph: Tag, found: bool },
     /// Graphs by ascending name.
     Graphs(List<GraphLine>),
     /// The values of a named graph's nodes, by ascending id.

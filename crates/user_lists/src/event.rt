@@ -13,17 +13,31 @@ pub enum ListEvent {
         spec: MakeSpec,
     },
     /// A job ends with what was made for it.
-    End { job: u32, built: Built },
+    End {
+        job: u32,
+        built: Built,
+    },
     /// A job ends for nothing.
-    Abandon { job: u32 },
+    Abandon {
+        job: u32,
+    },
     /// A job is asked to end.
-    Terminate { job: Tag },
+    Terminate {
+        job: Tag,
+    },
     /// Whether there is a graph of a name.
-    Exists { graph: Tag },
+    Exists {
+        graph: Tag,
+    },
     /// All graphs, or the one of a name.
-    List { graph: Option<Tag> },
+    List {
+        graph: Option<Tag>,
+    },
     /// A graph is dropped; it may be asked that there must be one.
-    Drop { graph: Tag, must: bool },
+    Drop {
+        graph: Tag,
+        must: bool,
+    },
     /// All jobs.
     Jobs,
 }

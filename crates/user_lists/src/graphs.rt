@@ -87,7 +87,11 @@ pub(crate) fn lines_of(alloc: Global, entries: &[(Tag, Entry)]) -> Result<List<G
 ///
 /// # Errors
 /// `Mem` where there is no memory for it.
-pub(crate) fn found_lines(alloc: Global, name: &Tag, found: Option<&Entry>) -> Result<List<GraphLine>, Mem>
+pub(crate) fn found_lines(
+    alloc: Global,
+    name: &Tag,
+    found: Option<&Entry>,
+) -> Result<List<GraphLine>, Mem>
     ensures { IfOk result (λ lines. lines ≡ found_lines name.now (option_map named (option_copied found.entry))) }
 {
     let mut lines = List::new(alloc);
@@ -101,7 +105,11 @@ pub(crate) fn found_lines(alloc: Global, name: &Tag, found: Option<&Entry>) -> R
 ///
 /// # Errors
 /// `Mem` where there is no memory for it.
-pub(crate) fn told_first(alloc: Global, job: &Job, graph: &Projection) -> Result<(GraphLine, Tag), Mem>
+pub(crate) fn told_first(
+    alloc: Global,
+    job: &Job,
+    graph: &Projection,
+) -> Result<(GraphLine, Tag), Mem>
     ensures line { IfOk result (λ told. told.0 ≡ graph_line (Some job.now.name) (graph_name job.now.spec) (record { version = 0; graph = plain graph.now })) }
     ensures name { IfOk result (λ told. told.1 ≡ graph_name job.now.spec) }
 {
