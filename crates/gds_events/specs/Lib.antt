@@ -1,0 +1,2 @@
+-- What a desk keeps on which a job may go on that this program began.
+pub mod Going
