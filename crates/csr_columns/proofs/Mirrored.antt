@@ -5,12 +5,12 @@ use Rattle.std.proofs.lemmas.List.{length-map, length-drop, length-set, get_or-m
 use Rattle.std.proofs.lemmas.List.Elements.{All-head, All-tail, filter-append}
 use Rattle.std.proofs.lemmas.List.FromFn.{length-map-range_with_len, get_or-map-range_with_len, take-map-range_with_len}
 use Rattle.std.proofs.lemmas.Bool.{cases_eq, eq-eqb, ne_eqb}
-use Rattle.graph_model.specs.Arcs.{leaves, degree_of, targets_of}
+use Rattle.graph_model.specs.Arcs.{leaves, out_degree, targets_of}
 use Rattle.csr_columns.specs.Rows.{arc_from, arcs_at, arcs_of, column_of, is_beside, listed, listed_column, row_at, rows_of, turned, turned_rows, values_of}
 use Rattle.csr_columns.specs.Offsets.{CountsArcs, CutsRows, arcs_before, cut_row, cut_rows, shown}
 use Rattle.csr_columns.specs.Parts.{IsLong}
 use Rattle.csr_columns.specs.Mirror.{FindsArcs, FindsValues, HasEqual, HasMirroredRows, IsMirrored, turned_arcs}
-use Rattle.csr_columns.proofs.ArcCounts.{by_induction, arcs_before-zero, arcs_before-suc, degree_of_more-same, degree_of_more-other, targets_of-more_same, targets_of-more_other}
+use Rattle.csr_columns.proofs.ArcCounts.{by_induction, arcs_before-zero, arcs_before-suc, out_degree_more-same, out_degree_more-other, targets_of-more_same, targets_of-more_other}
 use Rattle.csr_columns.proofs.Gathered.{zip-more}
 use Rattle.csr_columns.proofs.GrownRows.{part-listed}
 use Rattle.csr_columns.proofs.OffsetRows.{ArcRows-agree, cut_rows-counted, cut_rows-grouped, flat_map-listed, length-cut_rows, listed-cut_rows, listed-rows_below, row_at-cut_rows}
@@ -123,52 +123,52 @@ module _ (offsets targets : List ℕ) (cuts : CutsRows offsets (length targets))
     source-other : (u : ℕ) → t ≢ u → (get_or arcs place (0, 0)).0 ≢ u
     source-other u other = λ e. other (sym (ap (λ (arc : ℕ × ℕ). arc.0) (arc-at v place v_in from to)) ∙ e)
 
-    cursor-more : (u : ℕ) → u < length cursors → get_or (set cursors t (at + 1)) u 0 ≡ slice_index offsets u + degree_of (take (place + 1) arcs) u
+    cursor-more : (u : ℕ) → u < length cursors → get_or (set cursors t (at + 1)) u 0 ≡ slice_index offsets u + out_degree (take (place + 1) arcs) u
     cursor-more u u_in =
         ⊎_elim
         (λ (e : t ≡ u).
         let here : at ≡ get_or cursors u 0 = ap (λ (n : ℕ). get_or cursors n 0) e in
         let end : u ≡ t = sym e in
         ap (λ (n : ℕ). get_or (set cursors t (at + 1)) n 0) end ∙ get_or-set_same cursors t (at + 1) 0 (omega arith)
-        ∙ omega (arith, finds.cursor u u_in, degree_of_more-same arcs place u (0, 0) place_in (source-same u e)))
+        ∙ omega (arith, finds.cursor u u_in, out_degree_more-same arcs place u (0, 0) place_in (source-same u e)))
         (λ (other : t ≢ u).
         let ne : u ≢ t = omega arith in
-        get_or-set_other cursors t u (at + 1) 0 ne ∙ omega (arith, finds.cursor u u_in, degree_of_more-other arcs place u (0, 0) place_in (source-other u other)))
+        get_or-set_other cursors t u (at + 1) 0 ne ∙ omega (arith, finds.cursor u u_in, out_degree_more-other arcs place u (0, 0) place_in (source-other u other)))
         (cases_eq t u)
 
-    row-more : at < length targets → get_or targets at 0 ≡ v → (u : ℕ) → u < length cursors → take (degree_of (take (place + 1) arcs) u) (drop (slice_index offsets u) targets) ≡ targets_of (take (place + 1) arcs) u
+    row-more : at < length targets → get_or targets at 0 ≡ v → (u : ℕ) → u < length cursors → take (out_degree (take (place + 1) arcs) u) (drop (slice_index offsets u) targets) ≡ targets_of (take (place + 1) arcs) u
     row-more at_in is u u_in =
-        let had : ℕ = degree_of (take place arcs) u in
+        let had : ℕ = out_degree (take place arcs) u in
         ⊎_elim
         (λ (e : t ≡ u).
         let here : at ≡ slice_index offsets u + had = ap (λ (n : ℕ). get_or cursors n 0) e ∙ finds.cursor u u_in in
-        ap (λ (n : ℕ). take n (drop (slice_index offsets u) targets)) (degree_of_more-same arcs place u (0, 0) place_in (source-same u e))
+        ap (λ (n : ℕ). take n (drop (slice_index offsets u) targets)) (out_degree_more-same arcs place u (0, 0) place_in (source-same u e))
         ∙ part-more targets (slice_index offsets u) had 0 (omega arith)
         ∙ ap (λ (xs : List ℕ). xs ++ get_or targets (slice_index offsets u + had) 0 ∷ []) (finds.row u u_in)
         ∙ ap (λ (x : ℕ). targets_of (take place arcs) u ++ x ∷ []) (ap (λ (n : ℕ). get_or targets n 0) (sym here) ∙ is ∙ sym (ap (λ (arc : ℕ × ℕ). arc.1) (arc-at v place v_in from to)))
         ∙ sym (targets_of-more_same arcs place u (0, 0) place_in (source-same u e)))
         (λ (other : t ≢ u).
-        ap (λ (n : ℕ). take n (drop (slice_index offsets u) targets)) (degree_of_more-other arcs place u (0, 0) place_in (source-other u other))
+        ap (λ (n : ℕ). take n (drop (slice_index offsets u) targets)) (out_degree_more-other arcs place u (0, 0) place_in (source-other u other))
         ∙ finds.row u u_in
         ∙ sym (targets_of-more_other arcs place u (0, 0) place_in (source-other u other)))
         (cases_eq t u)
 
     values-more : at < length targets → (column : List ℤ) → length column ≡ length targets → HasEqual at place column → FindsValues offsets arcs place (length cursors) column → FindsValues offsets arcs (place + 1) (length cursors) column
     values-more at_in column long same found u u_in =
-        let had : ℕ = degree_of (take place arcs) u in
+        let had : ℕ = out_degree (take place arcs) u in
         let value : ℤ = get_or column place (pos 0) in
         let more = values_of-more arcs column place u (0, 0) place_in (long ∙ sym length-arcs) in
         ⊎_elim
         (λ (e : t ≡ u).
         let here : at ≡ slice_index offsets u + had = ap (λ (n : ℕ). get_or cursors n 0) e ∙ finds.cursor u u_in in
-        ap (λ (n : ℕ). take n (drop (slice_index offsets u) column)) (degree_of_more-same arcs place u (0, 0) place_in (source-same u e))
+        ap (λ (n : ℕ). take n (drop (slice_index offsets u) column)) (out_degree_more-same arcs place u (0, 0) place_in (source-same u e))
         ∙ part-more column (slice_index offsets u) had (pos 0) (omega arith)
         ∙ ap (λ (xs : List ℤ). xs ++ get_or column (slice_index offsets u + had) (pos 0) ∷ []) (found u u_in)
         ∙ ap (λ (x : ℤ). values_of (take place arcs) (take place column) u ++ x ∷ []) (ap (λ (n : ℕ). get_or column n (pos 0)) (sym here) ∙ same)
         ∙ ap (λ (b : Bool). values_of (take place arcs) (take place column) u ++ cond b (value ∷ []) []) (sym (eq-eqb (get_or arcs place (0, 0)).0 u (source-same u e)))
         ∙ sym more)
         (λ (other : t ≢ u).
-        ap (λ (n : ℕ). take n (drop (slice_index offsets u) column)) (degree_of_more-other arcs place u (0, 0) place_in (source-other u other))
+        ap (λ (n : ℕ). take n (drop (slice_index offsets u) column)) (out_degree_more-other arcs place u (0, 0) place_in (source-other u other))
         ∙ found u u_in
         ∙ sym (append-nil (values_of (take place arcs) (take place column) u))
         ∙ ap (λ (b : Bool). values_of (take place arcs) (take place column) u ++ cond b (value ∷ []) []) (sym (ne_eqb (get_or arcs place (0, 0)).0 u (source-other u other)))
@@ -190,10 +190,10 @@ module _ (offsets targets : List ℕ) (cuts : CutsRows offsets (length targets))
     whole : take (length targets) arcs ≡ arcs
     whole = take_all (length targets) arcs (omega (arith, length-arcs))
 
-    degrees : (v : ℕ) → v < nodes → slice_index offsets (v + 1) ≡ slice_index offsets v + degree_of arcs v
+    degrees : (v : ℕ) → v < nodes → slice_index offsets (v + 1) ≡ slice_index offsets v + out_degree arcs v
     degrees v h =
         let v_in : v < length cursors = omega (arith, finds.long) in
-        sym (ends v v_in) ∙ finds.cursor v v_in ∙ ap (λ (xs : List (ℕ × ℕ)). slice_index offsets v + degree_of xs v) whole
+        sym (ends v v_in) ∙ finds.cursor v v_in ∙ ap (λ (xs : List (ℕ × ℕ)). slice_index offsets v + out_degree xs v) whole
 
     counts : (v : ℕ) → v ≤ nodes → slice_index offsets v ≡ arcs_before arcs v
     counts =
@@ -207,9 +207,9 @@ module _ (offsets targets : List ℕ) (cuts : CutsRows offsets (length targets))
       counts = counts;
     }
 
-    cut-whole : {X : Type 0} (items : List X) (v : ℕ) → v < nodes → cut_row offsets items v ≡ take (degree_of arcs v) (drop (slice_index offsets v) items)
+    cut-whole : {X : Type 0} (items : List X) (v : ℕ) → v < nodes → cut_row offsets items v ≡ take (out_degree arcs v) (drop (slice_index offsets v) items)
     cut-whole items v h =
-        let count : slice_index offsets (v + 1) - slice_index offsets v ≡ degree_of arcs v = omega (arith, degrees v h) in
+        let count : slice_index offsets (v + 1) - slice_index offsets v ≡ out_degree arcs v = omega (arith, degrees v h) in
         ap (λ (n : ℕ). take n (drop (slice_index offsets v) items)) count
 
     pub mirrored-found : All (IsLong (length targets)) columns → IsMirrored offsets targets columns
@@ -219,7 +219,7 @@ module _ (offsets targets : List ℕ) (cuts : CutsRows offsets (length targets))
         many = sym length-arcs;
         rows = λ v h.
             cut-whole targets v h
-            ∙ subst (λ (xs : List (ℕ × ℕ)). take (degree_of xs v) (drop (slice_index offsets v) targets) ≡ targets_of xs v) whole (finds.row v (omega (arith, finds.long)));
+            ∙ subst (λ (xs : List (ℕ × ℕ)). take (out_degree xs v) (drop (slice_index offsets v) targets) ≡ targets_of xs v) whole (finds.row v (omega (arith, finds.long)));
       };
       values = λ k d h.
           let column : List ℤ = get_or columns k d in
@@ -227,7 +227,7 @@ module _ (offsets targets : List ℕ) (cuts : CutsRows offsets (length targets))
           cut_rows-counted nodes arcs offsets column (values_of arcs column) counted
           (λ v v_in.
           cut-whole column v v_in
-          ∙ subst (λ (xs : List (ℕ × ℕ)). take (degree_of xs v) (drop (slice_index offsets v) column) ≡ values_of xs (take (length targets) column) v) whole (finds.values k d h v (omega (arith, finds.long)))
+          ∙ subst (λ (xs : List (ℕ × ℕ)). take (out_degree xs v) (drop (slice_index offsets v) column) ≡ values_of xs (take (length targets) column) v) whole (finds.values k d h v (omega (arith, finds.long)))
           ∙ ap (λ (values : List ℤ). values_of arcs values v) all);
     }
 

@@ -1,7 +1,7 @@
 -- Laws of rows of arcs.
 use Rattle.std.specs.Prelude.{◌≡◌, ℕ, ℤ, ◌<◌, List, length, All}
 use Rattle.std.specs.List.Sorted.{IsSorted}
-use Rattle.graph_model.specs.Arcs.{targets_of, degree_of}
+use Rattle.graph_model.specs.Arcs.{targets_of, out_degree}
 use Rattle.csr_columns.specs.Rows.{LiesBelow, arc_cmp, rows_of, row_at, column_of, arcs_of, listed}
 
 -- the row of a node holds the targets of the arcs from it
@@ -10,7 +10,7 @@ RowHoldsTargets = (nodes : ℕ) (arcs : List (ℕ × ℕ)) (v : ℕ) → v < nod
 
 -- the row of a node is as long as its degree
 abbrev pub RowIsDegree : Type 0
-RowIsDegree = (nodes : ℕ) (arcs : List (ℕ × ℕ)) (v : ℕ) → v < nodes → length (row_at (rows_of nodes arcs) v) ≡ degree_of arcs v
+RowIsDegree = (nodes : ℕ) (arcs : List (ℕ × ℕ)) (v : ℕ) → v < nodes → length (row_at (rows_of nodes arcs) v) ≡ out_degree arcs v
 
 -- listing the rows of arcs in order gives the arcs back
 abbrev pub ListingGivesArcs : Type 0

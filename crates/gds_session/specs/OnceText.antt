@@ -10,7 +10,7 @@ use Rattle.std.specs.Prelude.{ℕ, ◌+◌, ◌==◌, nat_eq, nat_lt, Bool, fals
 use Rattle.std.specs.List.{starts_with, before_first, after_first, flat_map, range_with_len}
 use Rattle.std.specs.Str.{all_ascii_digits}
 use Rattle.std.specs.Str.Parse.{digits_value}
-use Rattle.graph_model.specs.Arcs.{degree_of}
+use Rattle.graph_model.specs.Arcs.{out_degree}
 -- the most nodes and the most relationships that an input has
 pub use Rattle.graph_model.specs.Graph.{most_nodes, most_rels as most_arcs}
 
@@ -70,7 +70,7 @@ arcs_of nodes number (line ∷ lines) =
 
 -- the line of a node: its id and its degree
 abbrev pub degree_line : List (ℕ × ℕ) → ℕ → List ℕ
-degree_line arcs v = decimal v ++ codes " " ++ decimal (degree_of arcs v) ++ codes "\n"
+degree_line arcs v = decimal v ++ codes " " ++ decimal (out_degree arcs v) ++ codes "\n"
 
 -- a line for each node, ascending
 abbrev pub degree_lines : ℕ → List (ℕ × ℕ) → List ℕ

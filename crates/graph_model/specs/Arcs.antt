@@ -10,5 +10,5 @@ abbrev pub targets_of : List (ℕ × ℕ) → ℕ → List ℕ
 targets_of arcs v = map (λ arc. arc.1) (filter (leaves v) arcs)
 
 -- the number of arcs from v
-abbrev pub degree_of : List (ℕ × ℕ) → ℕ → ℕ
-degree_of arcs v = count_by (leaves v) arcs
+abbrev pub out_degree : List (ℕ × ℕ) → ℕ → ℕ
+out_degree arcs v = count_by (leaves v) arcs
