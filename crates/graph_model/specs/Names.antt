@@ -5,6 +5,8 @@ use Rattle.std.specs.List.{list_all}
 use Rattle.std.specs.Ordering.{nat_cmp}
 use Rattle.std.specs.Cmp.Lexicographic.{slice_cmp}
 use Rattle.std.specs.declared.cmp.Ordering.TheVariants.{Less}
+use Rattle.graph_model.specs.declared.name.NameError.{NameError}
+use Rattle.graph_model.specs.declared.name.NameError.TheVariants.{Malformed, Mem}
 
 -- the first byte of a name: an ASCII letter or `_`
 abbrev pub begins_name : ℕ → Bool
@@ -31,3 +33,8 @@ is_tag (b ∷ bytes) = list_all is_tag_byte (b ∷ bytes) && nat_lt (length byte
 -- a text comes before another, byte by byte
 abbrev pub IsBefore : List ℕ → List ℕ → Type 0
 IsBefore a b = slice_cmp nat_cmp a b ≡ Less
+
+-- a text is malformed and this holds, or no memory was to be had
+abbrev pub IfMalformed : NameError → Type 0 → Type 0
+IfMalformed Malformed P = P
+IfMalformed Mem P = Unit {0}

@@ -17,6 +17,6 @@ pub use graph::{Choice, Column, Node, Orientation, Prop, PropertyGraph, Rel};
 pub use kept::{ImportNote, Kept};
 pub use list::List;
 pub use memory::{Mem, TryClone};
-pub use name::{Name, Tag};
+pub use name::{Name, NameError, Tag};
 pub use refusal::{Counter, EntityKind, LongPart, Quantity, Refusal, Side};
 pub use shared::Shared;

@@ -1,6 +1,6 @@
 // Names of labels, types and keys, and tags of graphs, jobs, users and imports.
 ghost use Rattle.std.specs.Prelude.{◌≡◌, [], false, not, IsTrue, IfOk, IfErr};
-ghost use Rattle.graph_model.specs.Names.{is_name, is_tag, begins_name, continues_name, is_tag_byte};
+ghost use Rattle.graph_model.specs.Names.{IfMalformed, is_name, is_tag, begins_name, continues_name, is_tag_byte};
 ghost use Rattle.graph_model.specs.Refusals.{UnlessMem};
 ghost use Rattle.std.specs.List.{list_all};
 
@@ -12,6 +12,25 @@ use std::alloc::Global;
 use std::marker::Model;
 
 const LONGEST: usize = 64;
+
+/// Why no name or no tag is read of a text.
+#[derive(Clone, Copy, Debug, PartialEq, Eq)]
+pub enum NameError {
+    /// The text has another form.
+    Malformed,
+    /// No memory was to be had.
+    Mem,
+}
+
+impl From<Mem> for NameError {
+    ghost use Rattle.graph_model.specs.declared.name.NameError.TheVariants as name_error;
+
+    ghost from_gives = { λ _ error. error ≡ name_error.Mem };
+
+    fn from(_mem: Mem) -> NameError {
+        NameError::Mem
+    }
+}
 
 /// A label, a type or a property key: 1 to 64 bytes, an ASCII letter or `_`, and then ASCII letters, digits or `_`.
 ///
@@ -41,17 +60,32 @@ impl Name {
     /// The name that a text is.
     ///
     /// # Errors
+    /// `Malformed` exactly where the text is no name, or `Mem`.
+    pub fn parse(alloc: Global, text: &[u8]) -> Result<Name, NameError>
+        ensures ok { IfOk result (λ name. (name ≡ text.now) × IsTrue (is_name text.now)) }
+        ensures refused { IfErr result (λ why. IfMalformed why (is_name text.now ≡ false)) }
+    {
+        if !is_name_text(text) {
+            return Err(NameError::Malformed);
+        }
+        Ok(Name {
+            text: Text::of(alloc, text)?,
+        })
+    }
+
+    /// The name that a text is.
+    ///
+    /// # Errors
     /// `BadArgument` with an empty `at` and row 0 exactly where the text is no name, or `Mem`.
     pub fn read(alloc: Global, text: &[u8]) -> Result<Name, Refusal>
         ensures ok { IfOk result (λ name. (name ≡ text.now) × IsTrue (is_name text.now)) }
         ensures refused { IfErr result (λ why. UnlessMem why ((why ≡ Refusal.BadArgument [] 0) × (is_name text.now ≡ false))) }
     {
-        if !is_name_text(text) {
-            return Err(no_name(alloc));
+        match Name::parse(alloc, text) {
+            Ok(name) => Ok(name),
+            Err(NameError::Malformed) => Err(no_name(alloc)),
+            Err(NameError::Mem) => Err(Refusal::Mem),
         }
-        Ok(Name {
-            text: Text::of(alloc, text)?,
-        })
     }
 
     /// The bytes of the name.
@@ -99,17 +133,32 @@ impl Tag {
     /// The tag that a text is.
     ///
     /// # Errors
+    /// `Malformed` exactly where the text is no tag, or `Mem`.
+    pub fn parse(alloc: Global, text: &[u8]) -> Result<Tag, NameError>
+        ensures ok { IfOk result (λ tag. (tag ≡ text.now) × IsTrue (is_tag text.now)) }
+        ensures refused { IfErr result (λ why. IfMalformed why (is_tag text.now ≡ false)) }
+    {
+        if !is_tag_text(text) {
+            return Err(NameError::Malformed);
+        }
+        Ok(Tag {
+            text: Text::of(alloc, text)?,
+        })
+    }
+
+    /// The tag that a text is.
+    ///
+    /// # Errors
     /// `BadArgument` with an empty `at` and row 0 exactly where the text is no tag, or `Mem`.
     pub fn read(alloc: Global, text: &[u8]) -> Result<Tag, Refusal>
         ensures ok { IfOk result (λ tag. (tag ≡ text.now) × IsTrue (is_tag text.now)) }
         ensures refused { IfErr result (λ why. UnlessMem why ((why ≡ Refusal.BadArgument [] 0) × (is_tag text.now ≡ false))) }
     {
-        if !is_tag_text(text) {
-            return Err(no_name(alloc));
+        match Tag::parse(alloc, text) {
+            Ok(tag) => Ok(tag),
+            Err(NameError::Malformed) => Err(no_name(alloc)),
+            Err(NameError::Mem) => Err(Refusal::Mem),
         }
-        Ok(Tag {
-            text: Text::of(alloc, text)?,
-        })
     }
 
     /// The bytes of the tag.
