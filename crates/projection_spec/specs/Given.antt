@@ -4,7 +4,7 @@
 --   joined name own added           parts, and of others those with further names
 --   fits_fields names value         whether no other fields than these are said of a part
 --   main_field name value           what its main field says
-use Rattle.std.specs.Prelude.{ℕ, nat_eq, nat_le, Bool, true, false, not, ◌&&◌, if◌then◌else◌, List, [], ◌∷◌, ◌++◌, length, filter, insert, Option, Some, None, option_and_then}
+use Rattle.std.specs.Prelude.{ℕ, nat_eq, nat_le, Bool, true, false, not, if◌then◌else◌, List, [], ◌∷◌, ◌++◌, length, filter, insert, Option, Some, None, option_and_then}
 use Rattle.std.specs.List.{list_any}
 use Rattle.std.specs.Ordering.{nat_cmp}
 use Rattle.std.specs.Cmp.Lexicographic.{slice_cmp, pointwise}
@@ -12,12 +12,8 @@ use Rattle.std.specs.declared.cmp.Ordering.{Ordering}
 use Rattle.std.specs.declared.cmp.Ordering.TheVariants.{Less, Equal, Greater}
 use Rattle.serde_json.specs.Find.{get_member}
 use Rattle.serde_json.specs.Data.{Data, null, boolean, number, string, array, object, Items, no_items, item, Members, no_members, member}
-
--- a part before others, where all are there
-abbrev pub before_others : {A : Type 0} → Option A → Option (List A) → Option (List A)
-before_others (Some x) (Some xs) = Some (x ∷ xs)
-before_others (Some x) None = None
-before_others None others = None
+use Rattle.json_forms.specs.Fields.{has_only_fields}
+use Rattle.json_forms.specs.Forms.{before_others}
 
 -- the part that an item of a list gives: a text stands for itself under its projected name, and nothing else may stand there
 abbrev pub item_part : {A : Type 0} → (List ℕ → List ℕ) → (List ℕ → Data → Option A) → Data → Option A
@@ -98,15 +94,6 @@ further name own added = filter (is_further name own) added
 abbrev pub joined : {A : Type 0} → (A → List ℕ) → List A → List A → Option (List A)
 joined name own added = option_and_then (ascending_by name) (within_limit (own ++ further name own added))
 
--- whether a text is one of these
-abbrev pub is_among : List (List ℕ) → List ℕ → Bool
-is_among names text = list_any (pointwise nat_eq text) names
-
--- whether a map has no other fields than these
-abbrev pub has_only : List (List ℕ) → Members → Bool
-has_only names no_members = true
-has_only names (member name value fields) = is_among names name && has_only names fields
-
 -- whether what is said of a part is a text, or a map with no other fields than these
 abbrev pub fits_fields : List (List ℕ) → Data → Bool
 fits_fields names null = false
@@ -114,7 +101,7 @@ fits_fields names (boolean b) = false
 fits_fields names (number n) = false
 fits_fields names (string text) = true
 fits_fields names (array list) = false
-fits_fields names (object fields) = has_only names fields
+fits_fields names (object fields) = has_only_fields names fields
 
 -- what the main field says; a text stands for a map with this field alone
 abbrev pub main_field : List ℕ → Data → Option Data
@@ -124,8 +111,3 @@ main_field name (number n) = None
 main_field name (string text) = Some (string text)
 main_field name (array list) = None
 main_field name (object fields) = get_member name fields
-
--- what a field says, or the default where it isn't there
-abbrev pub field_or : {A : Type 0} → (Data → Option A) → A → Option Data → Option A
-field_or read default None = Some default
-field_or read default (Some value) = read value

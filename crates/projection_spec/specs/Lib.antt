@@ -1,5 +1,4 @@
 -- Definitions on projections.
-pub mod Faults
 pub mod Fields
 pub mod Given
 pub mod JsonRows

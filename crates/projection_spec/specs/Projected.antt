@@ -9,6 +9,8 @@ use Rattle.serde_json.specs.Find.{as_object, get}
 use Rattle.graph_model.specs.Lists.{first_there}
 use Rattle.graph_model.specs.declared.refusal.Refusal.{Refusal}
 use Rattle.graph_model.specs.declared.refusal.Refusal.TheVariants.{BadArgument, MixedAggregation}
+use Rattle.json_forms.specs.Fields.{field_or}
+use Rattle.json_forms.specs.Forms.{before_others}
 use Rattle.projection_spec.specs.declared.entries.Rule.{Rule}
 use Rattle.projection_spec.specs.declared.entries.Rule.TheVariants.{Keep, Single, Count, Min, Max, Sum}
 use Rattle.projection_spec.specs.declared.entries.NodeProp.{NodeProp}
@@ -17,7 +19,7 @@ use Rattle.projection_spec.specs.declared.entries.RelProp.{RelProp}
 use Rattle.projection_spec.specs.declared.written.WrittenProp.{WrittenProp}
 use Rattle.projection_spec.specs.declared.written.WrittenEntry.{WrittenEntry}
 use Rattle.projection_spec.specs.Fields.{RelFields, SpecFields}
-use Rattle.projection_spec.specs.Given.{before_others, joined, field_or}
+use Rattle.projection_spec.specs.Given.{joined}
 use Rattle.projection_spec.specs.Written.{node_key, written_key, node_props, written_props, node_entries, written_entries, rule_in, with_sources}
 
 -- an entry with the keys of the configuration that it doesn't have itself

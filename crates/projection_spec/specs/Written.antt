@@ -16,8 +16,10 @@ use Rattle.projection_spec.specs.declared.entries.NodeProp.{NodeProp}
 use Rattle.projection_spec.specs.declared.entries.NodeEntry.{NodeEntry}
 use Rattle.projection_spec.specs.declared.written.WrittenProp.{WrittenProp}
 use Rattle.projection_spec.specs.declared.written.WrittenEntry.{WrittenEntry}
-use Rattle.projection_spec.specs.Given.{parts_of, fits_fields, main_field, field_or}
-use Rattle.projection_spec.specs.Words.{name_of, projected_entry, projected_key, read_name, read_store, read_orientation, read_aggregation, read_whole}
+use Rattle.json_forms.specs.Fields.{given, field_or}
+use Rattle.json_forms.specs.Forms.{name_of, read_name, read_chosen, read_whole}
+use Rattle.projection_spec.specs.Given.{parts_of, fits_fields, main_field}
+use Rattle.projection_spec.specs.Words.{projected_entry, projected_key, read_orientation, read_aggregation}
 
 -- what parts are called
 abbrev pub node_key : NodeProp → List ℕ
@@ -43,7 +45,7 @@ node_prop key value =
     if fits_fields (codes "property" ∷ codes "defaultValue" ∷ []) value
     then node_prop_from (name_of key)
     (field_or read_name key (main_field (codes "property") value))
-    (field_or read_whole None (get (codes "defaultValue") value))
+    (given read_whole (get (codes "defaultValue") value))
     else None
 
 -- the keys of projected nodes
@@ -60,7 +62,7 @@ abbrev pub node_entry : List ℕ → Data → Option NodeEntry
 node_entry label value =
     if fits_fields (codes "label" ∷ codes "properties" ∷ []) value
     then node_entry_from (name_of label)
-    (field_or read_store (Some label) (main_field (codes "label") value))
+    (field_or read_chosen (Some label) (main_field (codes "label") value))
     (field_or node_props [] (get (codes "properties") value))
     else None
 
@@ -84,9 +86,9 @@ abbrev pub written_prop : List ℕ → Data → Option WrittenProp
 written_prop key value =
     if fits_fields (codes "property" ∷ codes "defaultValue" ∷ codes "aggregation" ∷ []) value
     then written_prop_from (name_of key)
-    (field_or read_store (Some key) (main_field (codes "property") value))
-    (field_or read_whole None (get (codes "defaultValue") value))
-    (field_or read_aggregation None (get (codes "aggregation") value))
+    (field_or read_chosen (Some key) (main_field (codes "property") value))
+    (given read_whole (get (codes "defaultValue") value))
+    (given read_aggregation (get (codes "aggregation") value))
     else None
 
 -- the keys of projected arcs
@@ -129,9 +131,9 @@ abbrev pub written_entry : List ℕ → Data → Option WrittenEntry
 written_entry kind value =
     if fits_fields (codes "type" ∷ codes "orientation" ∷ codes "aggregation" ∷ codes "properties" ∷ []) value
     then written_entry_from (name_of kind)
-    (field_or read_store (Some kind) (main_field (codes "type") value))
+    (field_or read_chosen (Some kind) (main_field (codes "type") value))
     (field_or read_orientation Natural (get (codes "orientation") value))
-    (field_or read_aggregation None (get (codes "aggregation") value))
+    (given read_aggregation (get (codes "aggregation") value))
     (field_or written_props [] (get (codes "properties") value))
     else None
 

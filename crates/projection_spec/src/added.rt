@@ -1,17 +1,17 @@
 // What a configuration adds to entries.
 ghost use Rattle.std.specs.Prelude.{◌≡◌, ◌++◌, Some, None, IfOk, IfErr, option_and_then};
 ghost use Rattle.serde_json.specs.View.{view};
-ghost use Rattle.projection_spec.specs.Faults.{IfWrong};
+ghost use Rattle.json_forms.specs.Faults.{IfWrong};
 ghost use Rattle.projection_spec.specs.Given.{has_name, further, joined, within_limit};
 ghost use Rattle.projection_spec.specs.Projected.{full_node_entry, full_node_entries, full_written_entry, full_written_entries, all_nodes, all_rels};
 
 use crate::entries::{NodeEntry, NodeProp};
-use crate::fault::Fault;
 use crate::part::{LIMIT, Part, in_order};
 use crate::rels::with_sources;
 use crate::settings::parts_or_none;
 use crate::written::{WrittenEntry, WrittenProp};
 use graph_model::{List, Mem, Name, TryClone};
+use json_forms::Fault;
 use serde_json::Value;
 use std::alloc::Global;
 
@@ -52,7 +52,7 @@ fn append<T: Drop>(first: List<T>, second: List<T>) -> Result<List<T>, Fault>
     }
     match both.append(&mut more) {
         Ok(()) => Ok(List::from_vec(both)),
-        Err(_) => Err(Fault::NoRoom),
+        Err(_) => Err(Fault::Mem),
     }
 }
 
@@ -133,7 +133,7 @@ fn full_written_entries(
 /// The entries of the nodes, with what the configuration adds.
 ///
 /// # Errors
-/// `Wrong` exactly where what it adds is of a wrong form or makes an entry wrong, or `NoRoom`.
+/// `Wrong` exactly where what it adds is of a wrong form or makes an entry wrong, or `Mem`.
 pub(crate) fn all_nodes(
     alloc: Global,
     own: List<NodeEntry>,
@@ -149,7 +149,7 @@ pub(crate) fn all_nodes(
 /// The entries of the relationships, with what the configuration adds.
 ///
 /// # Errors
-/// `Wrong` exactly where what it adds is of a wrong form or makes an entry wrong, or `NoRoom`.
+/// `Wrong` exactly where what it adds is of a wrong form or makes an entry wrong, or `Mem`.
 pub(crate) fn all_rels(
     alloc: Global,
     own: List<WrittenEntry>,

@@ -1,32 +1,11 @@
 // The fields of what is said of a part.
-ghost use Rattle.std.specs.Prelude.{◌≡◌, map, Some, None};
+ghost use Rattle.std.specs.Prelude.{◌≡◌, map};
 ghost use Rattle.std.specs.Option.{option_map};
-ghost use Rattle.serde_json.specs.View.{view, members_view};
-ghost use Rattle.projection_spec.specs.Given.{is_among, has_only, fits_fields, main_field};
+ghost use Rattle.serde_json.specs.View.{view};
+ghost use Rattle.projection_spec.specs.Given.{fits_fields, main_field};
 
-use serde_json::{Map, Value};
-
-fn is_among(names: &[&str], text: &str) -> bool
-    ensures { result ≡ is_among (map (λ name. name.now) names.now) text.now }
-{
-    for name in names {
-        if text == *name {
-            return true;
-        }
-    }
-    false
-}
-
-fn has_only(fields: &Map<String, Value>, names: &[&str]) -> bool
-    ensures { result ≡ has_only (map (λ name. name.now) names.now) (members_view fields.now.entries) }
-{
-    for (name, _) in fields {
-        if !is_among(names, name.as_str()) {
-            return false;
-        }
-    }
-    true
-}
+use json_forms::has_only_fields;
+use serde_json::Value;
 
 /// Whether a value is a text, or a map with no other fields than these.
 pub(crate) fn fits_fields(value: &Value, names: &[&str]) -> bool
@@ -34,7 +13,7 @@ pub(crate) fn fits_fields(value: &Value, names: &[&str]) -> bool
 {
     match value {
         Value::String(_) => true,
-        Value::Object(fields) => has_only(fields, names),
+        Value::Object(fields) => has_only_fields(fields, names),
         _ => false,
     }
 }

@@ -9,7 +9,6 @@
 mod added;
 mod arcs;
 mod entries;
-mod fault;
 mod fields;
 pub mod laws;
 mod nodes;

@@ -1,16 +1,16 @@
 // The side of the nodes.
 ghost use Rattle.std.specs.Prelude.{◌≡◌, Some, None, IfOk, IfErr};
 ghost use Rattle.serde_json.specs.View.{view};
-ghost use Rattle.projection_spec.specs.Faults.{IfWrong};
+ghost use Rattle.json_forms.specs.Faults.{IfWrong};
 ghost use Rattle.projection_spec.specs.Written.{node_entries};
 
 use crate::entries::{NodeEntry, NodeProp};
-use crate::fault::Fault;
 use crate::fields::{fits_fields, main_field};
 use crate::part::{Part, parts_of};
-use crate::settings::{name_or, parts_or_none, store_or, whole_or_none};
-use crate::words::{name_of, projected_entry};
+use crate::settings::{name_or, parts_or_none, store_or};
+use crate::words::projected_entry;
 use graph_model::{List, Name};
+use json_forms::{Fault, given, name_of};
 use serde_json::Value;
 use std::alloc::Global;
 
@@ -34,7 +34,7 @@ impl Part for NodeProp {
         }
         let key = name_of(alloc, name)?;
         let store = name_or(alloc, main_field(value, "property"), &key)?;
-        let default = whole_or_none(value.get("defaultValue"))?;
+        let default = given(alloc, value.get("defaultValue"))?;
         Ok(NodeProp {
             key,
             store,
@@ -83,7 +83,7 @@ impl Part for NodeEntry {
 /// The entries of the nodes that a value gives, in ascending order of their labels.
 ///
 /// # Errors
-/// `Wrong` exactly where the value or a part of it is of a wrong form, or `NoRoom`.
+/// `Wrong` exactly where the value or a part of it is of a wrong form, or `Mem`.
 pub(crate) fn node_entries(alloc: Global, value: &Value) -> Result<List<NodeEntry>, Fault>
     ensures ok { IfOk result (λ entries. node_entries (view value.now) ≡ Some entries) }
     ensures refused { IfErr result (λ why. IfWrong why (node_entries (view value.now) ≡ None)) }

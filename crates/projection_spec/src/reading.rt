@@ -1,43 +1,18 @@
 // A projection from its three arguments.
-ghost use Rattle.std.specs.Prelude.{◌≡◌, ◌∷◌, [], Some, None, Ok, Err, IfOk, IfErr};
+ghost use Rattle.std.specs.Prelude.{◌≡◌, Some, None, IfOk, IfErr};
 ghost use Rattle.serde_json.specs.View.{view};
 ghost use Rattle.graph_model.specs.Refusals.{UnlessMem};
 ghost use Rattle.projection_spec.specs.Projected.{spec_of, refused_spec};
 
 use crate::added::{all_nodes, all_rels};
 use crate::entries::ProjectSpec;
-use crate::fault::Fault;
 use crate::nodes::node_entries;
 use crate::rels::written_entries;
 use crate::settled::settled_entries;
-use graph_model::{List, Refusal};
+use graph_model::Refusal;
+use json_forms::{argument, wrong_argument};
 use serde_json::Value;
 use std::alloc::Global;
-
-// What a wrong argument is answered with.
-fn wrong_argument(alloc: Global, at: &str) -> Refusal
-    ensures { UnlessMem result (result ≡ Refusal.BadArgument at.now 0) }
-{
-    match Vec::from_slice(alloc, at.as_bytes()) {
-        Ok(name) => Refusal::BadArgument {
-            at: List::from_vec(name),
-            row: 0,
-        },
-        Err(_) => Refusal::Mem,
-    }
-}
-
-// What was read of an argument, or why it is refused.
-fn argument<T: Drop>(alloc: Global, at: &str, read: Result<T, Fault>) -> Result<T, Refusal>
-    ensures ok { IfOk result (λ value. read ≡ Ok value) }
-    ensures refused { IfErr result (λ why. UnlessMem why ((why ≡ Refusal.BadArgument at.now 0) × (read ≡ Err Fault.Wrong))) }
-{
-    match read {
-        Ok(value) => Ok(value),
-        Err(Fault::NoRoom) => Err(Refusal::Mem),
-        Err(Fault::Wrong) => Err(wrong_argument(alloc, at)),
-    }
-}
 
 impl ProjectSpec {
     /// The projection that the nodes, the relationships and the configuration of a request say.

@@ -2,19 +2,17 @@
 ghost use Rattle.std.specs.Prelude.{◌≡◌, Some, None, IfOk, IfErr};
 ghost use Rattle.std.specs.List.{list_all};
 ghost use Rattle.serde_json.specs.View.{view};
-ghost use Rattle.projection_spec.specs.Faults.{IfWrong};
+ghost use Rattle.json_forms.specs.Faults.{IfWrong};
 ghost use Rattle.projection_spec.specs.Written.{rule_in, is_count, has_source, with_sources, written_entries};
 
 use crate::entries::Rule;
-use crate::fault::Fault;
 use crate::fields::{fits_fields, main_field};
 use crate::part::{Part, parts_of};
-use crate::settings::{
-    aggregation_or_none, orientation_or_natural, parts_or_none, store_or, whole_or_none,
-};
-use crate::words::{name_of, projected_entry};
+use crate::settings::{orientation_or_natural, parts_or_none, store_or};
+use crate::words::projected_entry;
 use crate::written::{WrittenEntry, WrittenProp};
 use graph_model::{List, Name};
+use json_forms::{Fault, given, name_of};
 use serde_json::Value;
 use std::alloc::Global;
 
@@ -38,8 +36,8 @@ impl Part for WrittenProp {
         }
         let key = name_of(alloc, name)?;
         let store = store_or(alloc, main_field(value, "property"), &key)?;
-        let default = whole_or_none(value.get("defaultValue"))?;
-        let aggregation = aggregation_or_none(value.get("aggregation"))?;
+        let default = given(alloc, value.get("defaultValue"))?;
+        let aggregation = given(alloc, value.get("aggregation"))?;
         Ok(WrittenProp {
             key,
             store,
@@ -74,7 +72,7 @@ impl Part for WrittenEntry {
         let kind = name_of(alloc, name)?;
         let store = store_or(alloc, main_field(value, "type"), &kind)?;
         let orientation = orientation_or_natural(value.get("orientation"))?;
-        let aggregation = aggregation_or_none(value.get("aggregation"))?;
+        let aggregation = given(alloc, value.get("aggregation"))?;
         let props = parts_or_none(alloc, value.get("properties"))?;
         with_sources(WrittenEntry {
             kind,
@@ -138,7 +136,7 @@ pub(crate) fn with_sources(entry: WrittenEntry) -> Result<WrittenEntry, Fault>
 /// The entries of the relationships that a value gives, as they are written, in ascending order of their types.
 ///
 /// # Errors
-/// `Wrong` exactly where the value or a part of it is of a wrong form, or `NoRoom`.
+/// `Wrong` exactly where the value or a part of it is of a wrong form, or `Mem`.
 pub(crate) fn written_entries(alloc: Global, value: &Value) -> Result<List<WrittenEntry>, Fault>
     ensures ok { IfOk result (λ entries. written_entries (view value.now) ≡ Some entries) }
     ensures refused { IfErr result (λ why. IfWrong why (written_entries (view value.now) ≡ None)) }

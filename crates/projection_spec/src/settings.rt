@@ -3,15 +3,16 @@ ghost use Rattle.std.specs.Prelude.{◌≡◌, [], Some, None, IfOk, IfErr};
 ghost use Rattle.std.specs.Option.{option_map};
 ghost use Rattle.serde_json.specs.View.{view};
 ghost use Rattle.graph_model.specs.declared.graph.Orientation.TheVariants.{Natural};
-ghost use Rattle.projection_spec.specs.Faults.{IfWrong};
-ghost use Rattle.projection_spec.specs.Given.{field_or, parts_of};
-ghost use Rattle.projection_spec.specs.Words.{read_name, read_store, read_orientation, read_aggregation, read_whole};
+ghost use Rattle.json_forms.specs.Faults.{IfWrong};
+ghost use Rattle.json_forms.specs.Fields.{field_or};
+ghost use Rattle.json_forms.specs.Forms.{read_name, read_chosen};
+ghost use Rattle.projection_spec.specs.Given.{parts_of};
+ghost use Rattle.projection_spec.specs.Words.{read_orientation};
 
-use crate::entries::Rule;
-use crate::fault::Fault;
 use crate::part::{Part, parts_of};
-use crate::words::{read_aggregation, read_name, read_orientation, read_store, read_whole};
+use crate::words::read_orientation;
 use graph_model::{List, Name, Orientation, TryClone};
+use json_forms::{Fault, Form};
 use serde_json::Value;
 use std::alloc::Global;
 
@@ -21,7 +22,7 @@ pub(crate) fn name_or(alloc: Global, said: Option<&Value>, default: &Name) -> Re
     ensures refused { IfErr result (λ why. IfWrong why (field_or read_name default.now (option_map (λ value. view value.now) said.entry) ≡ None)) }
 {
     match said {
-        Some(value) => read_name(alloc, value),
+        Some(value) => Form::read(alloc, value),
         None => Ok(default.try_clone()?),
     }
 }
@@ -32,34 +33,12 @@ pub(crate) fn store_or(
     said: Option<&Value>,
     default: &Name,
 ) -> Result<Option<Name>, Fault>
-    ensures ok { IfOk result (λ store. field_or read_store (Some default.now) (option_map (λ value. view value.now) said.entry) ≡ Some store) }
-    ensures refused { IfErr result (λ why. IfWrong why (field_or read_store (Some default.now) (option_map (λ value. view value.now) said.entry) ≡ None)) }
+    ensures ok { IfOk result (λ store. field_or read_chosen (Some default.now) (option_map (λ value. view value.now) said.entry) ≡ Some store) }
+    ensures refused { IfErr result (λ why. IfWrong why (field_or read_chosen (Some default.now) (option_map (λ value. view value.now) said.entry) ≡ None)) }
 {
     match said {
-        Some(value) => read_store(alloc, value),
+        Some(value) => Form::read(alloc, value),
         None => Ok(Some(default.try_clone()?)),
-    }
-}
-
-/// A whole number, or none.
-pub(crate) fn whole_or_none(said: Option<&Value>) -> Result<Option<i64>, Fault>
-    ensures ok { IfOk result (λ number. field_or read_whole None (option_map (λ value. view value.now) said.entry) ≡ Some number) }
-    ensures refused { IfErr result (λ why. IfWrong why (field_or read_whole None (option_map (λ value. view value.now) said.entry) ≡ None)) }
-{
-    match said {
-        Some(value) => read_whole(value),
-        None => Ok(None),
-    }
-}
-
-/// An aggregation, or none.
-pub(crate) fn aggregation_or_none(said: Option<&Value>) -> Result<Option<Rule>, Fault>
-    ensures ok { IfOk result (λ rule. field_or read_aggregation None (option_map (λ value. view value.now) said.entry) ≡ Some rule) }
-    ensures refused { IfErr result (λ why. IfWrong why (field_or read_aggregation None (option_map (λ value. view value.now) said.entry) ≡ None)) }
-{
-    match said {
-        Some(value) => read_aggregation(value),
-        None => Ok(None),
     }
 }
 
