@@ -7,7 +7,8 @@ use Rattle.graph_model.specs.declared.change.NewRel.{NewRel}
 use Rattle.graph_model.specs.declared.change.Place.{Place}
 use Rattle.graph_model.specs.declared.change.Place.TheVariants.{Old, New}
 use Rattle.graph_model.specs.Change.{IsPlaceBelow, IsDistinctRel}
-use Rattle.call_codec.specs.Elements.{is_end_below, are_ends_below, HasDistinctKeys}
+use Rattle.json_forms.specs.Elements.{HasDistinctKeys}
+use Rattle.call_codec.specs.Calls.{is_end_below, are_ends_below}
 
 both_true : (a b : Bool) → (a && b) ≡ true → (a ≡ true) × (b ≡ true)
 both_true true b both = (refl, both)

@@ -1,27 +1,27 @@
 -- The procedures and their arguments.
 --   procedure_named name      the procedure of a name
 --   arguments_of procedure    the names of its arguments, in the order in which they are judged
---   required, optional        an argument, or the refusal of it
---   list_or_empty             an argument that is a list
+--   are_ends_below            whether the new ends of a relationship lie below a number of nodes
 --   call_of procedure args    the call of a procedure with these arguments, or the first argument that is wrong
-use Rattle.std.specs.Prelude.{ℕ, ℤ, nat_eq, Bool, if◌then◌else◌, List, [], ◌∷◌, length, Option, Some, None, option_and_then, unwrap_or, Result, Ok, Err, codes}
+use Rattle.std.specs.Prelude.{ℕ, ℤ, nat_eq, nat_lt, Bool, true, ◌&&◌, if◌then◌else◌, List, [], ◌∷◌, length, Option, Some, None, unwrap_or, Result, Ok, Err, codes}
 use Rattle.std.specs.List.{list_all}
 use Rattle.std.specs.Cmp.Lexicographic.{pointwise}
 use Rattle.serde_json.specs.Data.{Data}
-use Rattle.serde_json.specs.Find.{get}
 use Rattle.graph_model.specs.declared.graph.Choice.{Choice}
 use Rattle.graph_model.specs.declared.graph.Choice.TheVariants.{All}
 use Rattle.graph_model.specs.declared.change.NewNode.{NewNode}
 use Rattle.graph_model.specs.declared.change.NewRel.{NewRel}
+use Rattle.graph_model.specs.declared.change.Place.{Place}
+use Rattle.graph_model.specs.declared.change.Place.TheVariants.{Old, New}
 use Rattle.graph_model.specs.declared.change.Change.TheVariants as change
 use Rattle.graph_model.specs.declared.refusal.Refusal.{Refusal}
-use Rattle.graph_model.specs.declared.refusal.Refusal.TheVariants.{BadArgument}
+use Rattle.json_forms.specs.Arguments.{right_at, required, optional, list_or_empty}
+use Rattle.json_forms.specs.Elements.{read_node, read_rel}
+use Rattle.json_forms.specs.Forms.{read_name, read_tag, read_id, read_pair, read_list, read_choice}
 use Rattle.desk_model.specs.declared.call.Call.{Call}
 use Rattle.desk_model.specs.declared.call.Call.TheVariants as call
 use Rattle.call_codec.specs.declared.procedure.Procedure.{Procedure}
 use Rattle.call_codec.specs.declared.procedure.Procedure.TheVariants.{Create, SetNodes, SetRels, DeleteNodes, DeleteRels, NodeProperty}
-use Rattle.call_codec.specs.Words.{read_name, read_tag, read_id, read_pair, read_list, read_choice, given, said_or_empty}
-use Rattle.call_codec.specs.Elements.{read_node, read_rel, are_ends_below}
 
 -- whether a text is this one
 abbrev pub is_text : List ℕ → List ℕ → Bool
@@ -47,23 +47,6 @@ arguments_of DeleteNodes = codes "ids" ∷ []
 arguments_of DeleteRels = codes "ids" ∷ []
 arguments_of NodeProperty = codes "key" ∷ codes "labels" ∷ []
 
--- an argument of a right form, or the refusal of it
-abbrev pub right_at : {A : Type 0} → List ℕ → Option A → Result A Refusal
-right_at at None = Err (BadArgument at 0)
-right_at at (Some value) = Ok value
-
--- an argument that must be there
-abbrev pub required : {A : Type 0} → List ℕ → (Data → Option A) → Data → Result A Refusal
-required at read args = right_at at (option_and_then read (get at args))
-
--- an argument that may be missing
-abbrev pub optional : {A : Type 0} → List ℕ → (Data → Option A) → Data → Result (Option A) Refusal
-optional at read args = right_at at (given read (get at args))
-
--- an argument that is a list, which is empty where it is missing
-abbrev pub list_or_empty : {A : Type 0} → List ℕ → (Data → Option A) → Data → Result (List A) Refusal
-list_or_empty at read args = right_at at (said_or_empty (read_list read) (get at args))
-
 -- two results, or the first refusal
 abbrev pub both : {A B : Type 0} → Result A Refusal → Result B Refusal → Result (A × B) Refusal
 both (Err why) b = Err why
@@ -79,6 +62,14 @@ followed next (Ok value) = next value
 abbrev pub made : {A B : Type 0} → (A → B) → Result A Refusal → Result B Refusal
 made make (Err why) = Err why
 made make (Ok value) = Ok (make value)
+
+-- whether an end names no new node from this number on
+abbrev pub is_end_below : ℕ → Place → Bool
+is_end_below count (Old id) = true
+is_end_below count (New index) = nat_lt index count
+
+abbrev pub are_ends_below : ℕ → NewRel → Bool
+are_ends_below count rel = is_end_below count rel.source && is_end_below count rel.target
 
 -- a call that creates nodes and relationships, whose new ends lie below the number of the nodes
 abbrev pub creation : Option (List ℕ) → List NewNode → List NewRel → Option Call

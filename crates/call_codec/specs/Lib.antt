@@ -1,8 +1,5 @@
 -- What lines ask, and the text of answers.
 pub mod Answers
-pub mod Faults
-pub mod Words
-pub mod Elements
 pub mod Calls
 pub mod Lines
 pub mod LineLaws

@@ -14,10 +14,12 @@ use Rattle.serde_json.specs.Find.{get, as_str, as_object}
 use Rattle.graph_model.specs.declared.refusal.LongPart.TheVariants.{Line}
 use Rattle.graph_model.specs.declared.refusal.Refusal.{Refusal}
 use Rattle.graph_model.specs.declared.refusal.Refusal.TheVariants.{TooLong, NoSuchProcedure, BadJson, BadArgument}
+use Rattle.json_forms.specs.Arguments.{right_at, required}
+use Rattle.json_forms.specs.Fields.{has_only}
+use Rattle.json_forms.specs.Forms.{read_tag}
 use Rattle.desk_model.specs.declared.call.Call.{Call}
 use Rattle.call_codec.specs.declared.procedure.Procedure.{Procedure}
-use Rattle.call_codec.specs.Words.{read_tag, has_only}
-use Rattle.call_codec.specs.Calls.{procedure_named, arguments_of, right_at, required, both, followed, call_of}
+use Rattle.call_codec.specs.Calls.{procedure_named, arguments_of, both, followed, call_of}
 
 -- what a line asks: a call for a user, or nothing that can be done
 pub data Item : Type 0 where

@@ -1,18 +1,34 @@
 // The calls of procedures, each with its arguments in their order.
 ghost use Rattle.std.specs.Prelude.{◌≡◌, Ok, Err, IfOk, IfErr};
+ghost use Rattle.std.specs.List.{list_all};
 ghost use Rattle.serde_json.specs.View.{view};
 ghost use Rattle.graph_model.specs.Refusals.{UnlessMem};
 ghost use Rattle.desk_model.specs.Script.{IsFormedCall};
 ghost use Rattle.call_codec.specs.declared.procedure.Procedure.TheVariants as procedure;
-ghost use Rattle.call_codec.specs.Calls.{call_of};
+ghost use Rattle.call_codec.specs.Calls.{call_of, is_end_below, are_ends_below};
 
-use crate::arguments::{list_or_empty, optional, required, wrong_argument};
-use crate::elements::all_ends_below;
 use crate::procedure::Procedure;
 use desk_model::Call;
-use graph_model::{Change, Choice, List, Name, NewNode, NewRel, Refusal, Tag};
+use graph_model::{Change, Choice, List, Name, NewNode, NewRel, Place, Refusal, Tag};
+use json_forms::{list_or_empty, optional, required, wrong_argument};
 use serde_json::Value;
 use std::alloc::Global;
+
+fn is_end_below(count: usize, end: Place) -> bool
+    ensures { result ≡ is_end_below count end }
+{
+    match end {
+        Place::Old(_) => true,
+        Place::New(index) => (index as usize) < count,
+    }
+}
+
+// Whether the new ends of each relationship lie below a number of nodes.
+fn all_ends_below(count: usize, rels: &[NewRel]) -> bool
+    ensures { result ≡ list_all (are_ends_below count) rels.now }
+{
+    rels.iter().all(|rel| is_end_below(count, rel.source) && is_end_below(count, rel.target))
+}
 
 // A call that creates nodes and relationships.
 fn create(alloc: Global, args: &Value) -> Result<Call, Refusal>

@@ -1,27 +1,20 @@
 //! A line of JSON as a user's call, and a reply as the text of an answer, each exactly.
 //!
 //! `specs/Answers` says what the text of a reply is. `specs/Lines` says what a line asks and which lines are whole, over the
-//! table of procedures in `specs/Calls` and the forms of values in `specs/Words` and `specs/Elements`; each later procedure
-//! adds a case to them. A call that is read is well formed: labels and keys are distinct, and ends name nodes of the call.
+//! table of procedures in `specs/Calls`, to which each later procedure adds a case; what values of JSON mean is left to
+//! `json_forms`. A call that is read is well formed: labels and keys are distinct, and ends name nodes of the call.
 //! Memory is taken for a line's JSON, which is read once, for the call and for the text of an answer. Whether ids live, and
 //! the events that perform a call, are left to the desk; reading lines from a source and writing answers to the shell.
 #![tactic(auto)]
 
 mod answer;
-mod arguments;
 mod calls;
-mod choice;
-mod elements;
-mod fault;
 mod fields;
-mod form;
 pub mod laws;
 mod line;
 mod lines;
-mod objects;
 mod procedure;
 mod refused;
-mod single;
 mod status;
 mod words;
 

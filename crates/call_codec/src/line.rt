@@ -4,15 +4,14 @@ ghost use Rattle.serde_json.specs.View.{view};
 ghost use Rattle.serde_json.specs.Find.{as_str};
 ghost use Rattle.graph_model.specs.Refusals.{UnlessMem};
 ghost use Rattle.desk_model.specs.Script.{IsFormedCall};
-ghost use Rattle.call_codec.specs.Calls.{required};
+ghost use Rattle.json_forms.specs.Arguments.{required};
 ghost use Rattle.call_codec.specs.Lines.{Calls, Refuses, is_blank_byte, is_blank, json_of, known_call, procedure_call, said_call, line_item};
 
-use crate::arguments::{required, wrong_argument};
 use crate::calls::call_of;
-use crate::objects::has_only;
 use crate::procedure::Procedure;
 use desk_model::Call;
 use graph_model::{Refusal, Tag};
+use json_forms::{has_only, required, wrong_argument};
 use serde_json::{Map, Value};
 use std::alloc::Global;
 

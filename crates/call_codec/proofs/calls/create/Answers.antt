@@ -1,6 +1,6 @@
 use Rattle.std.proofs.Common.{◌≡◌, true, length, rules}
 use Rattle.std.specs.List.{list_all}
-use Rattle.call_codec.specs.Elements.{are_ends_below}
+use Rattle.call_codec.specs.Calls.{are_ends_below}
 use Rattle.call_codec.proofs.RelLemmas.{rels_formed}
 use Rattle.call_codec.proofs.calls.create.Goals as goal
 
