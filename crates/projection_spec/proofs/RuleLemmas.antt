@@ -2,12 +2,12 @@
 use Rattle.std.proofs.Common.{◌≡◌, ◌≢◌, ℕ, Bool, true, false, List, [], ◌∷◌, map, Option, Some, None, refl, sym, ◌∙◌, ap, true≢false}
 use Rattle.std.specs.Prelude.{◌||◌, ◌&&◌, is_some}
 use Rattle.std.specs.Option.{option_map_or}
-use Rattle.std.specs.List.{list_any, list_all, AllByRecursion}
+use Rattle.std.specs.List.{list_any, list_all}
 use Rattle.projection_spec.specs.declared.entries.Rule.{Rule}
 use Rattle.projection_spec.specs.declared.entries.Rule.TheVariants.{Keep, Single, Count, Min, Max, Sum}
 use Rattle.projection_spec.specs.declared.written.WrittenProp.{WrittenProp}
 use Rattle.projection_spec.specs.declared.written.WrittenEntry.{WrittenEntry}
-use Rattle.projection_spec.specs.Fields.{FitsGroups, FitsStore, HasFittingRule, HasFittingRules}
+use Rattle.projection_spec.specs.Fields.{FitsGroups, FitsStore, HasFittingRules}
 use Rattle.projection_spec.specs.Written.{rule_in, is_count, has_source, HasSources}
 use Rattle.projection_spec.specs.Projected.{is_keep, is_grouping, some_rule, is_grouped, is_mixed, settled_prop}
 

@@ -1,6 +1,6 @@
 -- Arguments of projections, on which the definitions are evaluated.
-use Rattle.std.specs.Prelude.{ℕ, ℤ, pos, String, Bool, true, false, List, [], ◌∷◌, Option, Some, None, codes}
-use Rattle.serde_json.specs.Data.{Data, Num, unsigned, string, number, array, object, Items, no_items, item, Members, no_members, member}
+use Rattle.std.specs.Prelude.{ℕ, ℤ, Bool, false, List, [], ◌∷◌, Option, Some, None, codes}
+use Rattle.serde_json.specs.Data.{Data, string, array, object, Items, no_items, item, Members, no_members, member}
 use Rattle.graph_model.specs.declared.graph.Orientation.{Orientation}
 use Rattle.graph_model.specs.declared.graph.Orientation.TheVariants.{Natural}
 use Rattle.graph_model.specs.declared.refusal.Refusal.{Refusal}

@@ -1,7 +1,7 @@
 -- The arcs that an entry keeps: its raw arcs, or one for those between the same two nodes.
 --   groups_of grouped arcs     the groups of raw arcs, in the order of their ends
 --   kept_arcs entry arcs       the arcs that are kept, or the first sum that leaves i64
-use Rattle.std.specs.Prelude.{ℕ, ◌+◌, ◌-◌, ◌^◌, ◌==◌, nat_lt, nat_le, ℤ, pos, negsuc, ◌+ℤ◌, Bool, true, false, not, ◌&&◌, if◌then◌else◌, List, [], ◌∷◌, length, map, filter, count_by, Option, None, Some, is_some, unwrap_or, Result, Ok, Err, slice_index_or}
+use Rattle.std.specs.Prelude.{ℕ, ◌+◌, ◌-◌, ◌^◌, ◌==◌, nat_lt, ℤ, pos, negsuc, ◌+ℤ◌, Bool, true, false, not, ◌&&◌, if◌then◌else◌, List, [], ◌∷◌, length, map, filter, count_by, Option, None, Some, is_some, unwrap_or, Result, Ok, Err, slice_index_or}
 use Rattle.std.specs.Option.{option_map, option_or, option_and_then}
 use Rattle.std.specs.Int.{int_min, int_max}
 use Rattle.std.specs.List.{filter_map, reduce}

@@ -1,6 +1,6 @@
 -- The arcs that the relationships of a graph give for an entry, before any are grouped.
 --   raw_arcs g entries entry   the arcs of a relationship entry, where these are the node entries
-use Rattle.std.specs.Prelude.{◌≡◌, ℕ, ◌==◌, nat_lt, ℤ, Bool, true, false, ◌&&◌, ◌||◌, if◌then◌else◌, List, [], ◌∷◌, map, filter, find, Option, None, Some}
+use Rattle.std.specs.Prelude.{◌≡◌, ℕ, ◌==◌, nat_lt, ℤ, Bool, true, false, ◌&&◌, ◌||◌, List, [], ◌∷◌, filter, find, Option, None, Some}
 use Rattle.std.specs.Option.{option_map}
 use Rattle.std.specs.List.{flat_map, list_any}
 use Rattle.std.specs.Str.{bytes_eq}
@@ -10,7 +10,7 @@ use Rattle.graph_model.specs.declared.graph.Rel.{Rel}
 use Rattle.graph_model.specs.declared.graph.PropertyGraph.{PropertyGraph}
 use Rattle.graph_model.specs.declared.graph.Orientation.{Orientation}
 use Rattle.graph_model.specs.declared.graph.Orientation.TheVariants.{Natural, Reverse, Undirected}
-use Rattle.graph_model.specs.Lists.{Pairwise, in_order}
+use Rattle.graph_model.specs.Lists.{in_order}
 use Rattle.projection_spec.specs.declared.arcs.RawArc.{RawArc}
 use Rattle.projection_spec.specs.declared.entries.NodeEntry.{NodeEntry}
 use Rattle.projection_spec.specs.declared.entries.RelProp.{RelProp}

@@ -1,14 +1,13 @@
 -- Entries over the small store, on which the definitions are evaluated.
-use Rattle.std.specs.Prelude.{ℕ, ℤ, pos, negsuc, Bool, true, false, List, [], ◌∷◌, map, length, Option, None, Some, Result, Ok, Err, codes}
+use Rattle.std.specs.Prelude.{ℕ, ℤ, Bool, List, [], ◌∷◌, None, Some, Result, codes}
 use Rattle.graph_model.specs.declared.graph.Orientation.{Orientation}
-use Rattle.graph_model.specs.declared.graph.Orientation.TheVariants.{Natural, Undirected}
 use Rattle.graph_model.specs.SmallStore.{small_store}
 use Rattle.projection_spec.specs.declared.arcs.RawArc.{RawArc}
 use Rattle.projection_spec.specs.declared.arcs.Grouped.{Grouped}
 use Rattle.projection_spec.specs.declared.entries.NodeEntry.{NodeEntry}
 use Rattle.projection_spec.specs.declared.entries.RelProp.{RelProp}
 use Rattle.projection_spec.specs.declared.entries.Rule.{Rule}
-use Rattle.projection_spec.specs.declared.entries.Rule.TheVariants.{Keep, Single, Count, Min, Max, Sum}
+use Rattle.projection_spec.specs.declared.entries.Rule.TheVariants.{Single, Count, Min, Max, Sum}
 use Rattle.projection_spec.specs.Fields.{RelFields}
 use Rattle.projection_spec.specs.RawArcs.{raw_arcs}
 use Rattle.projection_spec.specs.KeptArcs.{SumOut, kept_arcs}
