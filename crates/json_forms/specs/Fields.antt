@@ -2,10 +2,9 @@
 --   given read said               what a field says, or none where it isn't there
 --   field_or read default said    the same, or the default where it isn't there
 --   has_only names value          whether a value is an object with no other fields than these
-use Rattle.std.specs.Prelude.{ℕ, nat_eq, Bool, true, false, ◌&&◌, List, Option, Some, None, option_map}
-use Rattle.std.specs.List.{list_any}
-use Rattle.std.specs.Cmp.Lexicographic.{pointwise}
+use Rattle.std.specs.Prelude.{ℕ, Bool, true, false, ◌&&◌, List, Option, Some, None, option_map}
 use Rattle.serde_json.specs.Data.{Data, null, boolean, number, string, array, object, Members, no_members, member}
+use Rattle.graph_model.specs.Projection.{is_among}
 
 -- what a field says, or none where it isn't there
 abbrev pub given : {A : Type 0} → (Data → Option A) → Option Data → Option (Option A)
@@ -16,10 +15,6 @@ given read (Some value) = option_map Some (read value)
 abbrev pub field_or : {A : Type 0} → (Data → Option A) → A → Option Data → Option A
 field_or read default None = Some default
 field_or read default (Some value) = read value
-
--- whether a text is one of these
-abbrev pub is_among : List (List ℕ) → List ℕ → Bool
-is_among names text = list_any (pointwise nat_eq text) names
 
 -- whether fields have no other names than these
 abbrev pub has_only_fields : List (List ℕ) → Members → Bool

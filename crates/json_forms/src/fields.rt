@@ -3,8 +3,9 @@ ghost use Rattle.std.specs.Prelude.{◌≡◌, [], map, Some, None, IfOk, IfErr,
 ghost use Rattle.std.specs.Option.{ForSome};
 ghost use Rattle.std.specs.List.{AllByRecursion};
 ghost use Rattle.serde_json.specs.View.{view, members_view};
+ghost use Rattle.graph_model.specs.Projection.{is_among};
 ghost use Rattle.json_forms.specs.Faults.{IfWrong};
-ghost use Rattle.json_forms.specs.Fields.{given, field_or, is_among, has_only_fields, has_only};
+ghost use Rattle.json_forms.specs.Fields.{given, field_or, has_only_fields, has_only};
 ghost use Rattle.json_forms.specs.Forms.{read_list};
 
 use crate::fault::Fault;

@@ -1,5 +1,5 @@
 use Rattle.std.proofs.Common.{◌≡◌, map, drop}
-use Rattle.json_forms.specs.Fields.{is_among}
+use Rattle.graph_model.specs.Projection.{is_among}
 use Rattle.json_forms.proofs.fields.is_among.Given as goal
 
 abbrev pub invariant-loop-name : goal.invariant-loop-name
