@@ -4,7 +4,8 @@ use crate::stop::Stop;
 use gds_session::End;
 use std::alloc::Global;
 
-/// Says how an outcome differs from the text and the end that are wanted, or nothing.
+/// Says how an outcome differs from the text and the end that are wanted, or nothing. Where no write and no flush failed, all that
+/// was written is flushed.
 pub(crate) fn difference(
     alloc: Global,
     wanted: &[u8],
@@ -20,7 +21,37 @@ pub(crate) fn difference(
         let text = format!(in alloc; "the end is {:?}, not {end:?}", outcome.end)?;
         return Ok(Some(text));
     }
-    Ok(None)
+    if end == End::WriteFault {
+        return Ok(None);
+    }
+    flush_difference(alloc, outcome.text.len(), outcome)
+}
+
+/// Says how many bytes are flushed where it isn't so many, or nothing.
+pub(crate) fn flush_difference(
+    alloc: Global,
+    flushed: usize,
+    outcome: &Outcome,
+) -> Result<Option<String>, Stop> {
+    if outcome.flushed == flushed {
+        return Ok(None);
+    }
+    let text = format!(in alloc; "{} bytes are flushed, not {flushed}", outcome.flushed)?;
+    Ok(Some(text))
+}
+
+/// Says which desks weren't opened where others are wanted, or nothing.
+pub(crate) fn opening_difference(
+    alloc: Global,
+    unopened: &[u64],
+    outcome: &Outcome,
+) -> Result<Option<String>, Stop> {
+    let came = outcome.unopened.as_slice();
+    if came == unopened {
+        return Ok(None);
+    }
+    let text = format!(in alloc; "the desks {came:?} weren't opened, not {unopened:?}")?;
+    Ok(Some(text))
 }
 
 // What is said of an answer that is another one, of one that is missing, and of one that is too many.

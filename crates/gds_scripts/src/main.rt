@@ -1,13 +1,15 @@
-//! Scripts of lines and answers, on which `shell` and `run` are tried over sources, sinks and keepers in memory.
+//! Scripts of lines and answers, on which `shell` and `run` are tried over sources, sinks, keepers and openers in memory.
 //!
 //! The words name files of scripts; without words standard input holds them. `script.rt` says what a script may hold. Each is
-//! run as it stands, and a small one whose streams don't fail also in other pieces, and with each read, each write and each
-//! commit failing in turn. Standard output gets a line a script: what was tried of it, or the first difference from what it
+//! run as it stands, and a small one whose streams don't fail also in other pieces, and with each read, each write, each flush and
+//! each commit failing in turn. Standard output gets a line a script: what was tried of it, or the first difference from what it
 //! wants. Nothing is claimed of this program but that it is safe and returns.
 #![tactic(auto)]
 
 mod compare;
 mod expand;
+mod flush_sink;
+mod head;
 mod outcome;
 mod script;
 mod stop;
@@ -47,7 +49,8 @@ fn tell(rt: &HostRuntime, script: &Script, tried: &Tried) -> Result<(), Stop> {
     print!(rt; "{}: answers {}", script.name, script.answers())?;
     if script.is_small_and_calm() {
         print!(rt; "; failed in turn: reads {}", tried.reads)?;
-        println!(rt; ", writes {}, commits {}", tried.writes, tried.commits)?;
+        print!(rt; ", writes {}, flushes {}", tried.writes, tried.flushes)?;
+        println!(rt; ", commits {}", tried.commits)?;
     } else {
         println!(rt; "")?;
     }

@@ -1,5 +1,6 @@
 // A script: how its streams behave, what is asked, and what should be answered.
 use crate::expand::{expand, read_number};
+use crate::head::{Fails, Limits, lists_calls, read_numbers, streams_of};
 use crate::outcome::{Asking, Streams};
 use crate::stop::Stop;
 use gds_session::End;
@@ -28,25 +29,27 @@ pub(crate) struct Asked {
 ///     piece 64               as many bytes a read gives, and a write takes, at most
 ///     room 100               as many bytes the sink takes; without this line more than are wanted
 ///     budget 100             as many bytes may be read
-///     reads 2 3              the reads that fail, counted from 1; so `writes` and `commits`
+///     reads 2 3              the reads that fail, counted from 1; so `writes`, `flushes` and `commits`
+///     opener PATH            each desk has a keeper from an opener, of this path, or without a path where none stands here
+///     opens 1 3              the openings that fail; `commits` are then those of the first keeper that the opener gives
 ///     > LINE                 a line that is answered; `>9` asks it nine times, `>.` leaves its LF out
 ///     - LINE                 a line that isn't answered, in the same forms
 ///     < ANSWER               an answer; `<9` stands for nine
-///     restart                the desk ends, and its keeper begins another one for the lines below
+///     restart                the desk ends, and its keeper begins another one for the lines below; with an opener the keeper
+///                            goes back to it, and another one is opened
+///     unopened               the opening for the lines above failed, and none of them is read
 ///     end Done               how it ends; the script is whole
 #[derive(Drop)]
 pub(crate) struct Script {
     pub(crate) name: String,
     is_command: bool,
     words: List<List<u8>>,
-    piece: usize,
-    room: Option<usize>,
-    budget: u64,
-    reads: Vec<u64>,
-    writes: Vec<u64>,
-    commits: Vec<u64>,
+    limits: Limits,
+    fails: Fails,
+    opener: Option<String>,
     pub(crate) asked: Vec<u8>,
     parts: Vec<usize>,
+    pub(crate) unopened: Vec<u64>,
     pub(crate) lines: Vec<Asked>,
     pub(crate) wanted: Vec<u8>,
     answers: u64,
@@ -60,14 +63,12 @@ impl Script {
             name: String::new(alloc),
             is_command: false,
             words: List::new(alloc),
-            piece: 64,
-            room: None,
-            budget: 1 << 40,
-            reads: Vec::new(alloc),
-            writes: Vec::new(alloc),
-            commits: Vec::new(alloc),
+            limits: Limits::new(),
+            fails: Fails::new(alloc),
+            opener: None,
             asked: Vec::new(alloc),
             parts: Vec::new(alloc),
+            unopened: Vec::new(alloc),
             lines: Vec::new(alloc),
             wanted: Vec::new(alloc),
             answers: 0,
@@ -85,26 +86,19 @@ impl Script {
     pub(crate) fn is_small_and_calm(&self) -> bool {
         self.asked.len() <= MOST_SMALL
             && self.parts.len() <= 1
-            && self.room.is_none()
+            && self.limits.has_room()
             && self.end != End::Spent
-            && self.reads.is_empty()
-            && self.writes.is_empty()
-            && self.commits.is_empty()
+            && self.fails.is_empty()
     }
 
     /// The streams as the script says.
     pub(crate) fn streams(&self) -> Streams<'_> {
-        Streams {
-            piece: self.piece,
-            room: match self.room {
-                Some(room) => room,
-                None => self.wanted.len().saturating_add(SPARE_ROOM),
-            },
-            budget: self.budget,
-            reads: self.reads.as_slice(),
-            writes: self.writes.as_slice(),
-            commits: self.commits.as_slice(),
-        }
+        let opener = match &self.opener {
+            Some(path) => Some(path.as_bytes()),
+            None => None,
+        };
+        let room = self.wanted.len().saturating_add(SPARE_ROOM);
+        streams_of(&self.limits, &self.fails, opener, room)
     }
 
     /// Whether it goes to `run`.
@@ -155,22 +149,40 @@ impl Script {
         Ok(false)
     }
 
-    // Takes a line of the head.
+    // Takes a line of the head, or one between parts.
     fn take_head(&mut self, alloc: Global, sign: &str, rest: &str) -> Result<(), Stop> {
-        match sign {
-            "script" => self.name = String::from_str(alloc, rest)?,
-            "words" => {
-                self.is_command = true;
-                self.words = read_words(alloc, rest)?;
-            }
-            "restart" => self.end_part()?,
-            "piece" => self.piece = read_number(rest)? as usize,
-            "room" => self.room = Some(read_number(rest)? as usize),
-            "budget" => self.budget = read_number(rest)?,
-            "reads" => self.reads = read_numbers(alloc, rest)?,
-            "writes" => self.writes = read_numbers(alloc, rest)?,
-            "commits" => self.commits = read_numbers(alloc, rest)?,
-            _ => return Err(Stop::Script),
+        if sign == "restart" {
+            return self.end_part();
+        }
+        if sign == "unopened" {
+            return self.leave_unopened();
+        }
+        if lists_calls(sign) {
+            let numbers = read_numbers(alloc, rest)?;
+            self.fails.take(sign, numbers);
+            return Ok(());
+        }
+        self.take_text(alloc, sign, rest)
+    }
+
+    // Notes that the desk for the lines above isn't opened.
+    fn leave_unopened(&mut self) -> Result<(), Stop> {
+        let number = self.parts.len() as u64;
+        self.unopened.push(number.saturating_add(1))?;
+        Ok(())
+    }
+
+    // Takes the text of a line of the head, or its number.
+    fn take_text(&mut self, alloc: Global, sign: &str, rest: &str) -> Result<(), Stop> {
+        if sign == "script" {
+            self.name = String::from_str(alloc, rest)?;
+        } else if sign == "words" {
+            self.is_command = true;
+            self.words = read_words(alloc, rest)?;
+        } else if sign == "opener" {
+            self.opener = Some(String::from_str(alloc, rest)?);
+        } else if !self.limits.take(sign, read_number(rest)?) {
+            return Err(Stop::Script);
         }
         Ok(())
     }
@@ -213,14 +225,6 @@ fn read_times(count: &str) -> Result<u64, Stop> {
     } else {
         read_number(count)
     }
-}
-
-fn read_numbers(alloc: Global, text: &str) -> Result<Vec<u64>, Stop> {
-    let mut numbers = Vec::new(alloc);
-    for digits in text.split_whitespace() {
-        numbers.push(read_number(digits)?)?;
-    }
-    Ok(numbers)
 }
 
 fn read_words(alloc: Global, text: &str) -> Result<List<List<u8>>, Stop> {

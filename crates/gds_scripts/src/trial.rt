@@ -1,5 +1,5 @@
 // What is tried of a script.
-use crate::compare::{difference, first_lines};
+use crate::compare::{difference, first_lines, flush_difference, opening_difference};
 use crate::outcome::{Asking, Outcome, Streams, play};
 use crate::script::Script;
 use crate::stop::Stop;
@@ -9,28 +9,31 @@ use std::alloc::Global;
 
 const STORE_FAULT: &[u8] = b"{\"refused\":{\"number\":28,\"code\":\"StoreFault\",\"batches\":0}}";
 
-/// How many reads, writes and commits failed, each in a trial of its own, and the first difference.
+/// How many reads, writes, flushes and commits failed, each in a trial of its own, and the first difference.
 #[derive(Drop)]
 pub(crate) struct Tried {
     pub(crate) reads: u64,
     pub(crate) writes: u64,
+    pub(crate) flushes: u64,
     pub(crate) commits: u64,
     pub(crate) difference: Option<String>,
 }
 
 /// Tries a script as it stands, and then, where it is small and its streams don't fail, in pieces of 1, 7 and 64 bytes and
-/// with each read, each write and each commit failing.
+/// with each read, each write, each flush and each commit failing.
 pub(crate) fn try_script(alloc: Global, script: &Script) -> Result<Tried, Stop> {
     let mut tried = Tried {
         reads: 0,
         writes: 0,
+        flushes: 0,
         commits: 0,
-        difference: try_once(alloc, script, &script.streams())?,
+        difference: try_as_it_stands(alloc, script)?,
     };
     if script.is_small_and_calm() {
         try_pieces(alloc, script, &mut tried)?;
         try_reads(alloc, script, &mut tried)?;
         try_writes(alloc, script, &mut tried)?;
+        try_flushes(alloc, script, &mut tried)?;
         try_commits(alloc, script, &mut tried)?;
     }
     Ok(tried)
@@ -39,6 +42,15 @@ pub(crate) fn try_script(alloc: Global, script: &Script) -> Result<Tried, Stop> 
 // What comes of a script over some streams.
 fn outcome_of(alloc: Global, script: &Script, streams: &Streams<'_>) -> Result<Outcome, Stop> {
     play(alloc, &script.asking(), streams)
+}
+
+// How a script differs over the streams that it says.
+fn try_as_it_stands(alloc: Global, script: &Script) -> Result<Option<String>, Stop> {
+    let outcome = outcome_of(alloc, script, &script.streams())?;
+    match difference(alloc, script.wanted.as_slice(), script.end, &outcome)? {
+        Some(text) => Ok(Some(text)),
+        None => opening_difference(alloc, script.unopened.as_slice(), &outcome),
+    }
 }
 
 // How a script differs over streams that don't fail.
@@ -151,6 +163,48 @@ fn try_writes(alloc: Global, script: &Script, tried: &mut Tried) -> Result<(), S
         let wanted = script.wanted.get(..count).unwrap_or(&[]);
         let found = difference(alloc, wanted, End::WriteFault, &outcome)?;
         note(alloc, tried, "where a write fails, write", write, found)?;
+    }
+    Ok(())
+}
+
+// What is flushed before a flush and what is written then, where each answer is flushed for itself, and a command's text once.
+fn around_flush(script: &Script, flush: u64) -> (&[u8], &[u8]) {
+    let wanted = script.wanted.as_slice();
+    if script.is_command() {
+        return (&[], wanted);
+    }
+    let before = first_lines(wanted, flush.saturating_sub(1) as usize);
+    (before, first_lines(wanted, flush as usize))
+}
+
+// How an outcome differs where a flush fails.
+fn try_flush(
+    alloc: Global,
+    script: &Script,
+    flush: u64,
+    outcome: &Outcome,
+) -> Result<Option<String>, Stop> {
+    let (before, written) = around_flush(script, flush);
+    match difference(alloc, written, End::WriteFault, outcome)? {
+        Some(text) => Ok(Some(text)),
+        None => flush_difference(alloc, before.len(), outcome),
+    }
+}
+
+fn try_flushes(alloc: Global, script: &Script, tried: &mut Tried) -> Result<(), Stop> {
+    for flush in 1..u64::MAX {
+        let flushes = [flush];
+        let streams = Streams {
+            flushes: flushes.as_slice(),
+            ..script.streams()
+        };
+        let outcome = outcome_of(alloc, script, &streams)?;
+        if !outcome.failed {
+            return Ok(());
+        }
+        tried.flushes = flush;
+        let found = try_flush(alloc, script, flush, &outcome)?;
+        note(alloc, tried, "where a flush fails, flush", flush, found)?;
     }
     Ok(())
 }
