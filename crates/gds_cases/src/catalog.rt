@@ -3,8 +3,9 @@ ghost use Rattle.std.specs.Prelude.{IfOk};
 ghost use Rattle.csr_columns.specs.Parts.{FitTogether};
 
 use crate::stop::Stop;
+use crate::words::{name, tag};
 use csr_columns::{Parts, Projection};
-use graph_model::{Column, List, Name, Refusal, Tag};
+use graph_model::{Column, List, Refusal};
 use std::alloc::Global;
 use user_catalog::{Catalog, Entry};
 
@@ -21,20 +22,6 @@ pub(crate) fn given(alloc: Global, catalog: &mut Catalog, asked: &str) -> Result
         "column" => column(alloc, catalog, rest),
         "values" => values(alloc, catalog, rest),
         _ => Err(Stop::Row),
-    }
-}
-
-fn tag(alloc: Global, text: &str) -> Result<Tag, Stop> {
-    match Tag::read(alloc, text.as_bytes()) {
-        Ok(tag) => Ok(tag),
-        Err(_) => Err(Stop::Row),
-    }
-}
-
-fn name(alloc: Global, text: &str) -> Result<Name, Stop> {
-    match Name::read(alloc, text.as_bytes()) {
-        Ok(name) => Ok(name),
-        Err(_) => Err(Stop::Row),
     }
 }
 

@@ -1,15 +1,24 @@
 //! Rows of cases, each a text that says what is asked and what it should give: `CASE ASKED => WANTED`.
 //!
-//! The words name files of rows; without words standard input holds them. `spec.rt` reads projections from JSON, and
-//! `catalog.rt` keeps, finds and widens named graphs. Standard output gets how many rows there were, and each row that gives
-//! something else. Nothing is claimed of this program but that it is safe and returns.
+//! The words name files of rows; without words standard input holds them. `spec.rt` reads projections from JSON,
+//! `catalog.rt` keeps, finds and widens named graphs, `stores.rt` changes and asks a store, `projections.rt` projects it,
+//! and `answers.rt` writes replies and refusals. Each file begins with an empty store and no graphs. Standard output gets
+//! how many rows there were, and each row that gives something else. Nothing is claimed of this program but that it is safe
+//! and returns.
 #![tactic(auto)]
 
+mod answers;
 mod catalog;
+mod projections;
+mod refusals;
 mod spec;
 mod stop;
+mod stores;
+mod words;
 
 use crate::stop::Stop;
+use crate::stores::Stores;
+use std::alloc::Global;
 use std::process::ExitCode;
 use std::{env, fs, io};
 use user_catalog::Catalog;
@@ -21,27 +30,32 @@ struct Count {
     differ: u64,
 }
 
+/// What the rows of a file are tried on.
+#[derive(Drop)]
+struct Cases {
+    catalog: Catalog,
+    stores: Stores,
+}
+
 // What a row gives.
-fn given(rt: &HostRuntime, catalog: &mut Catalog, asked: &str) -> Result<String, Stop> {
+fn given(alloc: Global, cases: &mut Cases, asked: &str) -> Result<String, Stop> {
     let (case, asked) = asked.split_once(" ").unwrap_or((asked, ""));
     match case {
-        "spec" => spec::given(rt.alloc(), asked),
-        "catalog" => catalog::given(rt.alloc(), catalog, asked),
+        "spec" => spec::given(alloc, asked),
+        "catalog" => catalog::given(alloc, &mut cases.catalog, asked),
+        "store" => cases.stores.given(alloc, asked),
+        "project" => cases.stores.project(alloc, asked),
+        "answer" => answers::given(alloc, &cases.stores, asked),
         _ => Err(Stop::Row),
     }
 }
 
 // Compares what a row gives with what it wants.
-fn judge(
-    rt: &HostRuntime,
-    catalog: &mut Catalog,
-    row: &str,
-    count: &mut Count,
-) -> Result<(), Stop> {
+fn judge(rt: &HostRuntime, cases: &mut Cases, row: &str, count: &mut Count) -> Result<(), Stop> {
     let Some((asked, wanted)) = row.split_once(" => ") else {
         return Err(Stop::Row);
     };
-    let given = given(rt, catalog, asked)?;
+    let given = given(rt.alloc(), cases, asked)?;
     count.rows = count.rows.saturating_add(1);
     if given.as_str().trim_end() != wanted {
         count.differ = count.differ.saturating_add(1);
@@ -50,14 +64,22 @@ fn judge(
     Ok(())
 }
 
+// An empty store, and no graphs.
+fn new_cases(alloc: Global) -> Result<Cases, Stop> {
+    Ok(Cases {
+        catalog: Catalog::new(alloc),
+        stores: Stores::new(alloc)?,
+    })
+}
+
 // Tries the rows of a text. Empty lines and comments are passed over.
 fn judge_all(rt: &HostRuntime, text: &str, count: &mut Count) -> Result<(), Stop> {
-    let mut catalog = Catalog::new(rt.alloc());
+    let mut cases = new_cases(rt.alloc())?;
     for row in text.lines() {
         if row.is_empty() || row.starts_with("#") {
             continue;
         }
-        match judge(rt, &mut catalog, row, count) {
+        match judge(rt, &mut cases, row, count) {
             Ok(()) => {}
             Err(Stop::Row) => {
                 eprintln!(rt; "gds_cases: this is no row: {row}")?;

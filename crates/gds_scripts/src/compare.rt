@@ -4,8 +4,8 @@ use crate::stop::Stop;
 use gds_session::End;
 use std::alloc::Global;
 
-/// Says how an outcome differs from the text and the end that are wanted, or nothing. Where no write and no flush failed, all that
-/// was written is flushed.
+/// Says how an outcome differs from the text and the end that are wanted, or nothing. Where no write and no flush failed,
+/// all that was written is flushed.
 pub(crate) fn difference(
     alloc: Global,
     wanted: &[u8],

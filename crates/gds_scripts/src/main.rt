@@ -1,9 +1,9 @@
 //! Scripts of lines and answers, on which `shell` and `run` are tried over sources, sinks, keepers and openers in memory.
 //!
-//! The words name files of scripts; without words standard input holds them. `script.rt` says what a script may hold. Each is
-//! run as it stands, and a small one whose streams don't fail also in other pieces, and with each read, each write, each flush and
-//! each commit failing in turn. Standard output gets a line a script: what was tried of it, or the first difference from what it
-//! wants. Nothing is claimed of this program but that it is safe and returns.
+//! The words name files of scripts; without words standard input holds them. `script.rt` says what a script may hold. Each
+//! is run as it stands, and a small one whose streams don't fail also in other pieces, and with each read, each write, each
+//! flush and each commit failing in turn. Standard output gets a line a script: what was tried of it, or the first
+//! difference from what it wants. Nothing is claimed of this program but that it is safe and returns.
 #![tactic(auto)]
 
 mod compare;

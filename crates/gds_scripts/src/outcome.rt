@@ -8,8 +8,8 @@ use graph_model::{Kept, List};
 use std::alloc::Global;
 use store_keeper::{KeepRefusal, MemKeeper, MemOpener, Opener};
 
-/// How streams behave: their pieces, the sink's room, how many bytes may be read, the path of an opener where keepers come from
-/// one, which is empty for no path, and which reads, writes, flushes, commits and openings fail.
+/// How streams behave: their pieces, the sink's room, how many bytes may be read, the path of an opener where keepers come
+/// from one, which is empty for no path, and which reads, writes, flushes, commits and openings fail.
 #[derive(Clone, Copy, Debug)]
 pub(crate) struct Streams<'a> {
     pub(crate) piece: usize,
@@ -23,8 +23,8 @@ pub(crate) struct Streams<'a> {
     pub(crate) opens: &'a [u64],
 }
 
-/// What is asked: whether it is a command of `run`, and its words; and the bytes, with the numbers of them that go to one desk
-/// after another.
+/// What is asked: whether it is a command of `run`, and its words; and the bytes, with the numbers of them that go to one
+/// desk after another.
 #[derive(Clone, Copy, Debug)]
 pub(crate) struct Asking<'a> {
     pub(crate) is_command: bool,
@@ -33,8 +33,8 @@ pub(crate) struct Asking<'a> {
     pub(crate) parts: &'a [usize],
 }
 
-/// How it ended, what was written and how much of it was flushed, which desks weren't opened, counted from 1, and whether a call
-/// failed.
+/// How it ended, what was written and how much of it was flushed, which desks weren't opened, counted from 1, and whether a
+/// call failed.
 #[derive(Drop)]
 pub(crate) struct Outcome {
     pub(crate) end: End,
@@ -111,8 +111,8 @@ fn serve_opened(
     }
 }
 
-// Serves bytes on one desk after another, each opened anew by one opener. Answers how the last one ended that was opened, whether
-// a read, a commit or an opening failed, and which desks weren't opened.
+// Serves bytes on one desk after another, each opened anew by one opener. Answers how the last one ended that was opened,
+// whether a read, a commit or an opening failed, and which desks weren't opened.
 fn serve_all_opened(
     alloc: Global,
     asked: &Asking<'_>,

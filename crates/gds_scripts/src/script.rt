@@ -13,8 +13,8 @@ const MOST_SMALL: usize = 4096;
 /// Bytes that a sink takes beyond those that are wanted, so that a wrong answer is seen.
 const SPARE_ROOM: usize = 4096;
 
-/// A line that is answered: where it starts, and where it is whole. The last line is whole behind all bytes where no LF ends
-/// it.
+/// A line that is answered: where it starts, and where it is whole. The last line is whole behind all bytes where no LF
+/// ends it.
 #[derive(Clone, Copy, Debug, PartialEq, Eq)]
 pub(crate) struct Asked {
     pub(crate) start: usize,
@@ -30,13 +30,13 @@ pub(crate) struct Asked {
 ///     room 100               as many bytes the sink takes; without this line more than are wanted
 ///     budget 100             as many bytes may be read
 ///     reads 2 3              the reads that fail, counted from 1; so `writes`, `flushes` and `commits`
-///     opener PATH            each desk has a keeper from an opener, of this path, or without a path where none stands here
-///     opens 1 3              the openings that fail; `commits` are then those of the first keeper that the opener gives
+///     opener PATH            each desk has a keeper from an opener, of this path, or of none where none stands here
+///     opens 1 3              the openings that fail; `commits` are then those of the opener's first keeper
 ///     > LINE                 a line that is answered; `>9` asks it nine times, `>.` leaves its LF out
 ///     - LINE                 a line that isn't answered, in the same forms
 ///     < ANSWER               an answer; `<9` stands for nine
-///     restart                the desk ends, and its keeper begins another one for the lines below; with an opener the keeper
-///                            goes back to it, and another one is opened
+///     restart                the desk ends, and its keeper begins another one for the lines below; with an opener the
+///                            keeper goes back to it, and another one is opened
 ///     unopened               the opening for the lines above failed, and none of them is read
 ///     end Done               how it ends; the script is whole
 #[derive(Drop)]

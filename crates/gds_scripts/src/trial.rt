@@ -167,7 +167,8 @@ fn try_writes(alloc: Global, script: &Script, tried: &mut Tried) -> Result<(), S
     Ok(())
 }
 
-// What is flushed before a flush and what is written then, where each answer is flushed for itself, and a command's text once.
+// What is flushed before a flush and what is written then, where each answer is flushed for itself, and a command's text
+// once.
 fn around_flush(script: &Script, flush: u64) -> (&[u8], &[u8]) {
     let wanted = script.wanted.as_slice();
     if script.is_command() {
