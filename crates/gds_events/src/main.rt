@@ -1,12 +1,15 @@
 //! Rows of events on desks: `USER VERB WORDS => ANSWER`, each an event of a user and the text of its answer.
 //!
-//! The words name files of rows; without words standard input holds them. A line `desk`, `desk admin NAME` or `desk fails NUMBER`
-//! begins a new desk, with an administrator or none, whose keeper fails at the commit of that number. Standard output gets how
-//! many rows there were, and each row that is answered otherwise. `session.rt` keeps that the job it began last goes on, so that
-//! what it hands in is what the desk asks for; else nothing is claimed of this program but that it is safe and returns.
+//! The words name files of rows; without words standard input holds them. A line `desk`, `desk admin NAME` or `desk fails
+//! NUMBER` begins a new desk, with an administrator or none, whose keeper fails at the commit of that number; `desk over
+//! VALUE` and `desk opened VALUE` begin one over a node with a value under `d`, whose keeper is given that, or comes from an
+//! opener. Standard output gets how many rows there were, and each row that is answered otherwise. `session.rt` keeps that
+//! the job it began last goes on, so that what it hands in is what the desk asks for; else nothing is claimed of this
+//! program but that it is safe and returns.
 #![tactic(auto)]
 
 mod event;
+mod keepers;
 mod session;
 mod stop;
 
@@ -41,11 +44,23 @@ fn fails_in(alloc: Global, words: &str) -> Result<Vec<u64>, Stop> {
     }
 }
 
-// A desk as a line asks for it: `admin NAME`, or `fails NUMBER`, may stand there.
+// A desk as a line asks for it: ` over VALUE`, ` opened VALUE`, ` fails NUMBER` and ` admin NAME` may stand there.
 fn start(alloc: Global, words: &str) -> Result<Session<MemKeeper>, Stop> {
     let fails = fails_in(alloc, words)?;
+    if let Some((_, node)) = words.split_once(" over ") {
+        return keepers::over_node(alloc, first_word(node), fails);
+    }
+    if let Some((_, node)) = words.split_once(" opened ") {
+        return keepers::opened(alloc, first_word(node), fails);
+    }
     let admin = admin_in(alloc, words)?;
-    session::start(alloc, admin, fails)
+    keepers::over_nothing(alloc, admin, fails)
+}
+
+// What stands before the first blank.
+fn first_word(words: &str) -> &str {
+    let (word, _) = words.split_once(" ").unwrap_or((words, ""));
+    word
 }
 
 // What `USER VERB WORDS` is answered with.

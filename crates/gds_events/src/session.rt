@@ -13,7 +13,7 @@ use call_codec::answer_text;
 use desk_core::{Asked, Built, Captured, Desk, Event, MakeSpec, Reply};
 use desk_model::laws::jobs_go_on;
 use graph_builder::Make;
-use graph_model::{Kept, List, Tag, TryClone};
+use graph_model::{List, Tag, TryClone};
 use std::alloc::Global;
 use std::marker::Model;
 use store_keeper::{Keeper, MemKeeper};
@@ -74,6 +74,12 @@ impl<K: Keeper> Session<K> {
                 self.ask(alloc, Asked { user, event })
             }
         }
+    }
+
+    /// The keeper of the desk, which ends.
+    pub(crate) fn keeper(self) -> K {
+        let Session { desk, last: _ } = self;
+        desk.end()
     }
 
     // An event that ends no job.
@@ -225,13 +231,12 @@ fn begin_job<K: Keeper>(
     }
 }
 
-/// A session on a desk over nothing, with this administrator or none, whose keeper fails at commits of these numbers.
-pub(crate) fn start(
+/// A session on a desk over what a keeper keeps, with this administrator or none.
+pub(crate) fn start_on(
     alloc: Global,
+    keeper: MemKeeper,
     admin: Option<Tag>,
-    fails: Vec<u64>,
 ) -> Result<Session<MemKeeper>, Stop> {
-    let keeper = MemKeeper::new(Kept::new(alloc), fails);
     match Desk::start(alloc, keeper, admin) {
         Ok(desk) => Ok(Session { desk, last: None }),
         Err(_) => Err(Stop::Mem),
