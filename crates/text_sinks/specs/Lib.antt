@@ -1,0 +1,3 @@
+-- What sinks of texts tell, what putting a text does to them, and the text that parts make.
+pub mod Told
+pub mod Parts
