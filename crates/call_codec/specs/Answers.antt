@@ -1,11 +1,10 @@
 -- The text of an answer.
 --   first_field                             the first field of an object
 --   number_field, whole_field, text_field   a further field of an object
---   refusal_number, refusal_code            how a refusal is numbered and called
 --   refusal_fields                          what is told of a refusal beside
 --   refusal_text                            the text of a refusal
 --   change_fields                           what a change did
---   items_behind text before items          the texts of items, with commas between them
+--   list_text text items                    the texts of items in brackets, with commas between them
 --   row_text, rows_text                     the rows of a column
 --   graph_text, job_text                    a named graph, and a job
 --   ok_fields reply                         what a reply tells that isn't a refusal
@@ -33,6 +32,7 @@ use Rattle.desk_model.specs.declared.lines.GraphLine.{GraphLine}
 use Rattle.desk_model.specs.declared.lines.JobLine.{JobLine}
 use Rattle.desk_model.specs.Replies as reply
 use Rattle.desk_model.specs.Replies.{PlainReply}
+use Rattle.call_codec.specs.Refusals.{row_of}
 
 -- the name of a field behind another one
 unfoldable pub field_name : List ℕ → List ℕ
@@ -77,78 +77,6 @@ counter_word counter.Imports = codes "imports"
 counter_word counter.Jobs = codes "jobs"
 counter_word counter.Versions = codes "versions"
 
--- the number of a refusal
-abbrev pub refusal_number : Refusal → ℕ
-refusal_number why.BadHttp = 1
-refusal_number (why.TooLong what limit) = 2
-refusal_number why.LengthRequired = 3
-refusal_number why.Transfer = 4
-refusal_number why.NoSuchProcedure = 5
-refusal_number why.BadJson = 6
-refusal_number (why.BadArgument at row) = 7
-refusal_number (why.GraphExists graph_name) = 8
-refusal_number (why.NoSuchGraph graph_name) = 9
-refusal_number (why.NoSuchLabel label) = 10
-refusal_number (why.NoSuchType rel_type) = 11
-refusal_number (why.NoSuchProperty key) = 12
-refusal_number (why.MixedAggregation rel_type) = 13
-refusal_number (why.SumOutOfRange rel_type key source target) = 14
-refusal_number (why.FilterSyntax filter byte) = 15
-refusal_number (why.FilterType filter byte) = 16
-refusal_number (why.NotUndirected rel_type) = 17
-refusal_number (why.WeightOutOfRange source target weight) = 18
-refusal_number (why.PropertyExists key) = 19
-refusal_number (why.NoSuchEntity kind id) = 20
-refusal_number (why.JobExists job_id) = 21
-refusal_number (why.NoSuchJob job_id) = 22
-refusal_number (why.Terminated batches) = 23
-refusal_number (why.GraphGone graph_name had now_) = 24
-refusal_number (why.Full which limit batches) = 25
-refusal_number (why.TooManyGraphs limit) = 26
-refusal_number (why.TooManyJobs limit) = 27
-refusal_number (why.StoreFault batches) = 28
-refusal_number why.Mem = 29
-refusal_number (why.CounterSpent counter last) = 30
-refusal_number (why.NotAdmin username) = 31
-refusal_number (why.AlreadyUndirected rel_type) = 32
-refusal_number (why.TypeExists rel_type) = 33
-
--- the code of a refusal
-abbrev pub refusal_code : Refusal → List ℕ
-refusal_code why.BadHttp = codes "BadHttp"
-refusal_code (why.TooLong what limit) = codes "TooLong"
-refusal_code why.LengthRequired = codes "LengthRequired"
-refusal_code why.Transfer = codes "Transfer"
-refusal_code why.NoSuchProcedure = codes "NoSuchProcedure"
-refusal_code why.BadJson = codes "BadJson"
-refusal_code (why.BadArgument at row) = codes "BadArgument"
-refusal_code (why.GraphExists graph_name) = codes "GraphExists"
-refusal_code (why.NoSuchGraph graph_name) = codes "NoSuchGraph"
-refusal_code (why.NoSuchLabel label) = codes "NoSuchLabel"
-refusal_code (why.NoSuchType rel_type) = codes "NoSuchType"
-refusal_code (why.NoSuchProperty key) = codes "NoSuchProperty"
-refusal_code (why.MixedAggregation rel_type) = codes "MixedAggregation"
-refusal_code (why.SumOutOfRange rel_type key source target) = codes "SumOutOfRange"
-refusal_code (why.FilterSyntax filter byte) = codes "FilterSyntax"
-refusal_code (why.FilterType filter byte) = codes "FilterType"
-refusal_code (why.NotUndirected rel_type) = codes "NotUndirected"
-refusal_code (why.WeightOutOfRange source target weight) = codes "WeightOutOfRange"
-refusal_code (why.PropertyExists key) = codes "PropertyExists"
-refusal_code (why.NoSuchEntity kind id) = codes "NoSuchEntity"
-refusal_code (why.JobExists job_id) = codes "JobExists"
-refusal_code (why.NoSuchJob job_id) = codes "NoSuchJob"
-refusal_code (why.Terminated batches) = codes "Terminated"
-refusal_code (why.GraphGone graph_name had now_) = codes "GraphGone"
-refusal_code (why.Full which limit batches) = codes "Full"
-refusal_code (why.TooManyGraphs limit) = codes "TooManyGraphs"
-refusal_code (why.TooManyJobs limit) = codes "TooManyJobs"
-refusal_code (why.StoreFault batches) = codes "StoreFault"
-refusal_code why.Mem = codes "Mem"
-refusal_code (why.CounterSpent counter last) = codes "CounterSpent"
-refusal_code (why.NotAdmin username) = codes "NotAdmin"
-refusal_code (why.AlreadyUndirected rel_type) = codes "AlreadyUndirected"
-refusal_code (why.TypeExists rel_type) = codes "TypeExists"
-
 -- what is told of a refusal behind its number and its code
 abbrev pub refusal_fields : Refusal → List ℕ
 refusal_fields why.BadHttp = []
@@ -189,13 +117,13 @@ refusal_fields (why.NotAdmin username) = text_field (codes "username") username
 refusal_fields (why.AlreadyUndirected rel_type) = text_field (codes "type") rel_type
 refusal_fields (why.TypeExists rel_type) = text_field (codes "type") rel_type
 
--- the number, the code and the fields of a refusal
-unfoldable pub refusal_body : Refusal → List ℕ
-refusal_body why = first_field (codes "number") (refusal_number why) ++ text_field (codes "code") (refusal_code why) ++ refusal_fields why
+-- the front of the text of a refusal: its number and its code
+abbrev pub refusal_head : ℕ → List ℕ → List ℕ
+refusal_head number code = codes "{\"refused\":{" ++ first_field (codes "number") number ++ text_field (codes "code") code
 
 -- the text of a refusal
 abbrev pub refusal_text : Refusal → List ℕ
-refusal_text why = codes "{\"refused\":{" ++ refusal_body why ++ codes "}}"
+refusal_text why = refusal_head (row_of why).number (row_of why).code ++ refusal_fields why ++ codes "}}"
 
 -- what a change did: how many it made from which ids on, how many pairs it set, or how many ceased to live
 abbrev pub change_fields : ChangeReply → List ℕ
@@ -210,13 +138,17 @@ abbrev pub items_behind : {A : Type 0} → (A → List ℕ) → List ℕ → Lis
 items_behind text before [] = []
 items_behind text before (item ∷ items) = before ++ text item ++ items_behind text (codes ",") items
 
+-- the texts of items in brackets
+abbrev pub list_text : {A : Type 0} → (A → List ℕ) → List A → List ℕ
+list_text text items = codes "[" ++ items_behind text [] items ++ codes "]"
+
 -- the row of a node, its value in a field of this name
 abbrev pub row_text : List ℕ → ℕ × ℤ → List ℕ
 row_text name row = codes "{" ++ first_field (codes "nodeId") row.0 ++ whole_field name row.1 ++ codes "}"
 
 -- the rows of a column
 abbrev pub rows_text : List ℕ → List (ℕ × ℤ) → List ℕ
-rows_text name rows = codes "\"rows\":[" ++ items_behind (row_text name) [] rows ++ codes "]"
+rows_text name rows = codes "\"rows\":" ++ list_text (row_text name) rows
 
 -- a text in quotes
 abbrev pub quoted : List ℕ → List ℕ
@@ -240,14 +172,17 @@ graph_fields line =
     first_text_field (codes "graphName") line.name ++ number_field (codes "nodeCount") line.nodes
     ++ number_field (codes "relationshipCount") line.arcs ++ number_field (codes "version") line.version
 
+-- a named graph as far as its node keys
+abbrev pub graph_head : GraphLine → List ℕ
+graph_head line = codes "{" ++ graph_fields line ++ codes ",\"nodeProperties\":"
+
 -- a named graph with its node keys
 abbrev pub graph_text : GraphLine → List ℕ
-graph_text line =
-    codes "{" ++ graph_fields line ++ codes ",\"nodeProperties\":[" ++ items_behind quoted [] line.keys ++ codes "]}"
+graph_text line = graph_head line ++ list_text quoted line.keys ++ codes "}"
 
 -- named graphs
 abbrev pub graphs_text : List GraphLine → List ℕ
-graphs_text lines = codes "\"graphs\":[" ++ items_behind graph_text [] lines ++ codes "]"
+graphs_text lines = codes "\"graphs\":" ++ list_text graph_text lines
 
 -- the name of the job that made a graph, where it is told
 abbrev pub maker_field : Option (List ℕ) → List ℕ
@@ -260,15 +195,19 @@ stage_word stage.Making = codes "making"
 stage_word stage.Running = codes "running"
 stage_word stage.Writing = codes "writing"
 
+-- what is told of a job
+abbrev pub job_fields : JobLine → List ℕ
+job_fields line =
+    first_text_field (codes "jobId") line.name ++ text_field (codes "kind") (stage_word line.kind)
+    ++ flag_field (codes "terminated") line.asked ++ number_field (codes "batches") line.batches
+
 -- a job
 abbrev pub job_text : JobLine → List ℕ
-job_text line =
-    codes "{" ++ first_text_field (codes "jobId") line.name ++ text_field (codes "kind") (stage_word line.kind)
-    ++ flag_field (codes "terminated") line.asked ++ number_field (codes "batches") line.batches ++ codes "}"
+job_text line = codes "{" ++ job_fields line ++ codes "}"
 
 -- jobs
 abbrev pub jobs_text : List JobLine → List ℕ
-jobs_text lines = codes "\"jobs\":[" ++ items_behind job_text [] lines ++ codes "]"
+jobs_text lines = codes "\"jobs\":" ++ list_text job_text lines
 
 -- the fields of a reply that isn't a refusal; no call is answered with the beginning of a job, or with its end alone
 abbrev pub ok_fields : PlainReply → List ℕ

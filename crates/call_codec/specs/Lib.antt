@@ -3,5 +3,5 @@ pub mod Answers
 pub mod Calls
 pub mod Lines
 pub mod LineLaws
-pub mod Statuses
+pub mod Refusals
 pub mod WorkedRows

@@ -10,6 +10,7 @@
 mod answer;
 mod calls;
 mod fields;
+mod item;
 pub mod laws;
 mod line;
 mod lines;
@@ -18,6 +19,6 @@ mod refused;
 mod status;
 mod words;
 
-pub use answer::answer_text;
+pub use answer::{answer_length, answer_write, line_write};
 pub use line::{is_blank, line_call};
 pub use status::status_of;

@@ -1,120 +1,170 @@
 // What is told of named graphs and of jobs.
-ghost use Rattle.std.specs.Prelude.{◌≡◌, [], ◌++◌, OnOk};
+ghost use Rattle.std.specs.Prelude.{◌≡◌, ◌++◌, codes};
+ghost use Rattle.text_sinks.specs.Told.{Wrote};
 ghost use Rattle.desk_model.specs.Replies as reply;
-ghost use Rattle.call_codec.specs.Answers.{items_behind, quoted, graph_fields, graph_text, graphs_text, job_text, jobs_text, ok_fields};
+ghost use Rattle.call_codec.specs.Answers.{first_text_field, flag_field, graph_fields, graph_head, graph_text, graphs_text, job_fields, job_text, jobs_text, maker_field, number_field, ok_fields, quoted, text_field};
 
-use crate::fields::{
-    put, put_first_text_field, put_flag_field, put_number_field, put_quoted, put_text_field,
-};
+use crate::fields::{put_first_text_field, put_flag_field, put_number_field, put_text_field};
+use crate::item::{Item, put_list};
 use crate::words::stage_word;
 use desk_model::{GraphLine, JobLine};
-use graph_model::{Mem, Name, Tag};
+use gds_causes::Failed;
+use graph_model::{Name, Tag};
+use text_sinks::{Part, TextSink, put_parts};
+
+// Puts the name of a graph and its counts.
+fn put_counts<T: TextSink>(
+    text: &mut T,
+    name: &[u8],
+    nodes: u64,
+    arcs: u64,
+    version: u64,
+) -> Result<(), Failed>
+    ensures wrote { Wrote result (T.told text.old) (T.told text.new)
+        (first_text_field (codes "graphName") name.now ++ number_field (codes "nodeCount") nodes
+        ++ number_field (codes "relationshipCount") arcs ++ number_field (codes "version") version) }
+{
+    put_first_text_field(text, "graphName", name)?;
+    put_number_field(text, "nodeCount", nodes)?;
+    put_number_field(text, "relationshipCount", arcs)?;
+    put_number_field(text, "version", version)
+}
 
 // Puts what is told of each named graph.
-fn put_graph_fields(text: &mut Vec<u8>, line: &GraphLine) -> Result<(), Mem>
-    ensures { OnOk result (text.new.items ≡ text.old.items ++ graph_fields line.now) }
+fn put_graph_fields<T: TextSink>(text: &mut T, line: &GraphLine) -> Result<(), Failed>
+    ensures wrote { Wrote result (T.told text.old) (T.told text.new) (graph_fields line.now) }
 {
-    put_first_text_field(text, "graphName", line.name.bytes())?;
-    put_number_field(text, "nodeCount", u64::from(line.nodes))?;
-    put_number_field(text, "relationshipCount", line.arcs)?;
-    put_number_field(text, "version", u64::from(line.version))
+    put_counts(
+        text,
+        line.name.bytes(),
+        u64::from(line.nodes),
+        line.arcs,
+        u64::from(line.version),
+    )
+}
+
+// Puts the name of the job that made a graph, where it is told.
+fn put_maker<T: TextSink>(text: &mut T, job: &Option<Tag>) -> Result<(), Failed>
+    ensures wrote { Wrote result (T.told text.old) (T.told text.new) (maker_field job.now) }
+{
+    match job {
+        Some(name) => put_text_field(text, "jobId", name.bytes()),
+        None => text.put(b""),
+    }
 }
 
 /// Puts the graph that a job made.
-pub(crate) fn put_made(text: &mut Vec<u8>, line: &GraphLine) -> Result<(), Mem>
-    ensures { OnOk result (text.new.items ≡ text.old.items ++ ok_fields (reply.Made line.now)) }
+pub(crate) fn put_made<T: TextSink>(text: &mut T, line: &GraphLine) -> Result<(), Failed>
+    ensures wrote { Wrote result (T.told text.old) (T.told text.new) (ok_fields (reply.Made line.now)) }
 {
     put_graph_fields(text, line)?;
-    match &line.job {
-        Some(name) => put_text_field(text, "jobId", name.bytes()),
-        None => Ok(()),
-    }
+    put_maker(text, &line.job)
 }
 
-/// Puts whether there is a graph.
-pub(crate) fn put_there(text: &mut Vec<u8>, name: &Tag, found: bool) -> Result<(), Mem>
-    ensures { OnOk result (text.new.items ≡ text.old.items ++ ok_fields (reply.There name.now found)) }
+/// Puts whether there is a graph of this name.
+pub(crate) fn put_there<T: TextSink>(text: &mut T, name: &[u8], found: bool) -> Result<(), Failed>
+    ensures wrote { Wrote result (T.told text.old) (T.told text.new) (first_text_field (codes "graphName") name.now ++ flag_field (codes "exists") found) }
 {
-    put_first_text_field(text, "graphName", name.bytes())?;
+    put_first_text_field(text, "graphName", name)?;
     put_flag_field(text, "exists", found)
 }
 
-// Puts names in quotes, with commas between them.
-fn put_names(text: &mut Vec<u8>, names: &[Name]) -> Result<(), Mem>
-    ensures { OnOk result (text.new.items ≡ text.old.items ++ items_behind quoted [] names.now) }
-{
-    let mut before: &[u8] = b"";
-    for name in names {
-        put(text, before)?;
-        put_quoted(text, name.bytes())?;
-        before = b",";
+impl Item for Name {
+    ghost use Rattle.call_codec.specs.Answers.{quoted};
+
+    ghost text = { quoted };
+
+    // Puts the name in quotes.
+    fn put_to<T: TextSink>(&self, sink: &mut T) -> Result<(), Failed> {
+        put_parts(
+            sink,
+            &[
+                Part::Bytes(b"\""),
+                Part::Bytes(self.bytes()),
+                Part::Bytes(b"\""),
+            ],
+        )
     }
-    Ok(())
 }
 
-// Puts a named graph with its node keys.
-fn put_graph(text: &mut Vec<u8>, line: &GraphLine) -> Result<(), Mem>
-    ensures { OnOk result (text.new.items ≡ text.old.items ++ graph_text line.now) }
+// Puts the front of a named graph, as far as its node keys.
+fn put_graph_head<T: TextSink>(text: &mut T, line: &GraphLine) -> Result<(), Failed>
+    ensures wrote { Wrote result (T.told text.old) (T.told text.new) (graph_head line.now) }
 {
-    put(text, b"{")?;
+    text.put(b"{")?;
     put_graph_fields(text, line)?;
-    put(text, b",\"nodeProperties\":[")?;
-    put_names(text, line.keys.as_slice())?;
-    put(text, b"]}")
+    text.put(b",\"nodeProperties\":")
 }
 
-// Puts named graphs with commas between them.
-fn put_graphs_between(text: &mut Vec<u8>, lines: &[GraphLine]) -> Result<(), Mem>
-    ensures { OnOk result (text.new.items ≡ text.old.items ++ items_behind graph_text [] lines.now) }
-{
-    let mut before: &[u8] = b"";
-    for line in lines {
-        put(text, before)?;
-        put_graph(text, line)?;
-        before = b",";
+impl Item for GraphLine {
+    ghost use Rattle.call_codec.specs.Answers.{graph_text};
+
+    ghost text = { graph_text };
+
+    // Puts the graph with its node keys.
+    fn put_to<T: TextSink>(&self, sink: &mut T) -> Result<(), Failed> {
+        put_graph_head(sink, self)?;
+        put_list(sink, self.keys.as_slice())?;
+        sink.put(b"}")
     }
-    Ok(())
 }
 
 /// Puts named graphs.
-pub(crate) fn put_graphs(text: &mut Vec<u8>, lines: &[GraphLine]) -> Result<(), Mem>
-    ensures { OnOk result (text.new.items ≡ text.old.items ++ graphs_text lines.now) }
+pub(crate) fn put_graphs<T: TextSink>(text: &mut T, lines: &[GraphLine]) -> Result<(), Failed>
+    ensures wrote { Wrote result (T.told text.old) (T.told text.new) (graphs_text lines.now) }
 {
-    put(text, b"\"graphs\":[")?;
-    put_graphs_between(text, lines)?;
-    put(text, b"]")
+    text.put(b"\"graphs\":")?;
+    put_list(text, lines)
 }
 
-// Puts a job.
-fn put_job(text: &mut Vec<u8>, line: &JobLine) -> Result<(), Mem>
-    ensures { OnOk result (text.new.items ≡ text.old.items ++ job_text line.now) }
+// Puts the name of a job, its stage, whether it is asked to end, and its batches.
+fn put_stage<'a, T: TextSink>(
+    text: &mut T,
+    name: &'a [u8],
+    kind: &'a [u8],
+    asked: bool,
+    batches: u64,
+) -> Result<(), Failed>
+    ensures wrote { Wrote result (T.told text.old) (T.told text.new)
+        (first_text_field (codes "jobId") name.now ++ text_field (codes "kind") kind.now
+        ++ flag_field (codes "terminated") asked ++ number_field (codes "batches") batches) }
 {
-    put(text, b"{")?;
-    put_first_text_field(text, "jobId", line.name.bytes())?;
-    put_text_field(text, "kind", stage_word(line.kind).as_bytes())?;
-    put_flag_field(text, "terminated", line.asked)?;
-    put_number_field(text, "batches", u64::from(line.batches))?;
-    put(text, b"}")
+    put_first_text_field(text, "jobId", name)?;
+    put_text_field(text, "kind", kind)?;
+    put_flag_field(text, "terminated", asked)?;
+    put_number_field(text, "batches", batches)
 }
 
-// Puts jobs with commas between them.
-fn put_jobs_between(text: &mut Vec<u8>, lines: &[JobLine]) -> Result<(), Mem>
-    ensures { OnOk result (text.new.items ≡ text.old.items ++ items_behind job_text [] lines.now) }
+// Puts what is told of a job.
+fn put_job_fields<T: TextSink>(text: &mut T, line: &JobLine) -> Result<(), Failed>
+    ensures wrote { Wrote result (T.told text.old) (T.told text.new) (job_fields line.now) }
 {
-    let mut before: &[u8] = b"";
-    for line in lines {
-        put(text, before)?;
-        put_job(text, line)?;
-        before = b",";
+    put_stage(
+        text,
+        line.name.bytes(),
+        stage_word(line.kind).as_bytes(),
+        line.asked,
+        u64::from(line.batches),
+    )
+}
+
+impl Item for JobLine {
+    ghost use Rattle.call_codec.specs.Answers.{job_text};
+
+    ghost text = { job_text };
+
+    // Puts the job.
+    fn put_to<T: TextSink>(&self, sink: &mut T) -> Result<(), Failed> {
+        sink.put(b"{")?;
+        put_job_fields(sink, self)?;
+        sink.put(b"}")
     }
-    Ok(())
 }
 
 /// Puts jobs.
-pub(crate) fn put_jobs(text: &mut Vec<u8>, lines: &[JobLine]) -> Result<(), Mem>
-    ensures { OnOk result (text.new.items ≡ text.old.items ++ jobs_text lines.now) }
+pub(crate) fn put_jobs<T: TextSink>(text: &mut T, lines: &[JobLine]) -> Result<(), Failed>
+    ensures wrote { Wrote result (T.told text.old) (T.told text.new) (jobs_text lines.now) }
 {
-    put(text, b"\"jobs\":[")?;
-    put_jobs_between(text, lines)?;
-    put(text, b"]")
+    text.put(b"\"jobs\":")?;
+    put_list(text, lines)
 }

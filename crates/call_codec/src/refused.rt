@@ -1,94 +1,139 @@
-// The text of a refusal: a table by its variants.
-ghost use Rattle.std.specs.Prelude.{◌≡◌, ◌++◌, OnOk};
-ghost use Rattle.call_codec.specs.Answers.{refusal_number, refusal_code, refusal_fields, refusal_body, refusal_text};
+// The table of refusals: their numbers, codes, statuses and fields.
+ghost use Rattle.std.specs.Prelude.{◌≡◌, ◌++◌, codes};
+ghost use Rattle.text_sinks.specs.Told.{Wrote};
+ghost use Rattle.call_codec.specs.Answers.{number_field, refusal_fields, refusal_head, refusal_text, text_field, whole_field};
+ghost use Rattle.call_codec.specs.Refusals.{row_of};
 
-use crate::fields::{put, put_first_field, put_number_field, put_text_field, put_whole_field};
+use crate::fields::{put_first_field, put_number_field, put_text_field, put_whole_field};
 use crate::words::{counter_word, kind_word, part_word, quantity_word, side_word};
-use graph_model::{Mem, Refusal};
+use gds_causes::Failed;
+use graph_model::Refusal;
+use text_sinks::TextSink;
 
-fn refusal_number(why: &Refusal) -> u64
-    ensures { result ≡ refusal_number why.now }
+/// A refusal's number, its code, and the status of its answer over HTTP.
+#[derive(Clone, Copy, Debug, PartialEq, Eq)]
+pub(crate) struct RefusalRow {
+    number: u64,
+    code: &'static str,
+    pub(crate) status: u16,
+}
+
+fn numbered(number: u64, code: &'static str, status: u16) -> RefusalRow
+    ensures number { result.number ≡ number }
+    ensures code { result.code.now ≡ code.now }
+    ensures status { result.status ≡ status }
 {
-    match why {
-        Refusal::BadHttp => 1,
-        Refusal::TooLong { .. } => 2,
-        Refusal::LengthRequired => 3,
-        Refusal::Transfer => 4,
-        Refusal::NoSuchProcedure => 5,
-        Refusal::BadJson => 6,
-        Refusal::BadArgument { .. } => 7,
-        Refusal::GraphExists { .. } => 8,
-        Refusal::NoSuchGraph { .. } => 9,
-        Refusal::NoSuchLabel { .. } => 10,
-        Refusal::NoSuchType { .. } => 11,
-        Refusal::NoSuchProperty { .. } => 12,
-        Refusal::MixedAggregation { .. } => 13,
-        Refusal::SumOutOfRange { .. } => 14,
-        Refusal::FilterSyntax { .. } => 15,
-        Refusal::FilterType { .. } => 16,
-        Refusal::NotUndirected { .. } => 17,
-        Refusal::WeightOutOfRange { .. } => 18,
-        Refusal::PropertyExists { .. } => 19,
-        Refusal::NoSuchEntity { .. } => 20,
-        Refusal::JobExists { .. } => 21,
-        Refusal::NoSuchJob { .. } => 22,
-        Refusal::Terminated { .. } => 23,
-        Refusal::GraphGone { .. } => 24,
-        Refusal::Full { .. } => 25,
-        Refusal::TooManyGraphs { .. } => 26,
-        Refusal::TooManyJobs { .. } => 27,
-        Refusal::StoreFault { .. } => 28,
-        Refusal::Mem => 29,
-        Refusal::CounterSpent { .. } => 30,
-        Refusal::NotAdmin { .. } => 31,
-        Refusal::AlreadyUndirected { .. } => 32,
-        Refusal::TypeExists { .. } => 33,
+    RefusalRow {
+        number,
+        code,
+        status,
     }
 }
 
-fn refusal_code(why: &Refusal) -> &'static str
-    ensures { result.now ≡ refusal_code why.now }
+/// The row of a refusal.
+pub(crate) fn row_of(why: &Refusal) -> RefusalRow
+    ensures number { result.number ≡ (row_of why.now).number }
+    ensures code { result.code.now ≡ (row_of why.now).code }
+    ensures status { result.status ≡ (row_of why.now).status }
 {
     match why {
-        Refusal::BadHttp => "BadHttp",
-        Refusal::TooLong { .. } => "TooLong",
-        Refusal::LengthRequired => "LengthRequired",
-        Refusal::Transfer => "Transfer",
-        Refusal::NoSuchProcedure => "NoSuchProcedure",
-        Refusal::BadJson => "BadJson",
-        Refusal::BadArgument { .. } => "BadArgument",
-        Refusal::GraphExists { .. } => "GraphExists",
-        Refusal::NoSuchGraph { .. } => "NoSuchGraph",
-        Refusal::NoSuchLabel { .. } => "NoSuchLabel",
-        Refusal::NoSuchType { .. } => "NoSuchType",
-        Refusal::NoSuchProperty { .. } => "NoSuchProperty",
-        Refusal::MixedAggregation { .. } => "MixedAggregation",
-        Refusal::SumOutOfRange { .. } => "SumOutOfRange",
-        Refusal::FilterSyntax { .. } => "FilterSyntax",
-        Refusal::FilterType { .. } => "FilterType",
-        Refusal::NotUndirected { .. } => "NotUndirected",
-        Refusal::WeightOutOfRange { .. } => "WeightOutOfRange",
-        Refusal::PropertyExists { .. } => "PropertyExists",
-        Refusal::NoSuchEntity { .. } => "NoSuchEntity",
-        Refusal::JobExists { .. } => "JobExists",
-        Refusal::NoSuchJob { .. } => "NoSuchJob",
-        Refusal::Terminated { .. } => "Terminated",
-        Refusal::GraphGone { .. } => "GraphGone",
-        Refusal::Full { .. } => "Full",
-        Refusal::TooManyGraphs { .. } => "TooManyGraphs",
-        Refusal::TooManyJobs { .. } => "TooManyJobs",
-        Refusal::StoreFault { .. } => "StoreFault",
-        Refusal::Mem => "Mem",
-        Refusal::CounterSpent { .. } => "CounterSpent",
-        Refusal::NotAdmin { .. } => "NotAdmin",
-        Refusal::AlreadyUndirected { .. } => "AlreadyUndirected",
-        Refusal::TypeExists { .. } => "TypeExists",
+        Refusal::BadHttp => numbered(1, "BadHttp", 400),
+        Refusal::TooLong { .. } => numbered(2, "TooLong", 413),
+        Refusal::LengthRequired => numbered(3, "LengthRequired", 411),
+        Refusal::Transfer => numbered(4, "Transfer", 501),
+        Refusal::NoSuchProcedure => numbered(5, "NoSuchProcedure", 404),
+        Refusal::BadJson => numbered(6, "BadJson", 400),
+        Refusal::BadArgument { .. } => numbered(7, "BadArgument", 400),
+        Refusal::GraphExists { .. } => numbered(8, "GraphExists", 409),
+        Refusal::NoSuchGraph { .. } => numbered(9, "NoSuchGraph", 404),
+        Refusal::NoSuchLabel { .. } => numbered(10, "NoSuchLabel", 422),
+        Refusal::NoSuchType { .. } => numbered(11, "NoSuchType", 422),
+        Refusal::NoSuchProperty { .. } => numbered(12, "NoSuchProperty", 422),
+        Refusal::MixedAggregation { .. } => numbered(13, "MixedAggregation", 422),
+        Refusal::SumOutOfRange { .. } => numbered(14, "SumOutOfRange", 422),
+        Refusal::FilterSyntax { .. } => numbered(15, "FilterSyntax", 422),
+        Refusal::FilterType { .. } => numbered(16, "FilterType", 422),
+        Refusal::NotUndirected { .. } => numbered(17, "NotUndirected", 422),
+        Refusal::WeightOutOfRange { .. } => numbered(18, "WeightOutOfRange", 422),
+        Refusal::PropertyExists { .. } => numbered(19, "PropertyExists", 409),
+        Refusal::NoSuchEntity { .. } => numbered(20, "NoSuchEntity", 422),
+        Refusal::JobExists { .. } => numbered(21, "JobExists", 409),
+        Refusal::NoSuchJob { .. } => numbered(22, "NoSuchJob", 404),
+        Refusal::Terminated { .. } => numbered(23, "Terminated", 409),
+        Refusal::GraphGone { .. } => numbered(24, "GraphGone", 409),
+        Refusal::Full { .. } => numbered(25, "Full", 409),
+        Refusal::TooManyGraphs { .. } => numbered(26, "TooManyGraphs", 409),
+        Refusal::TooManyJobs { .. } => numbered(27, "TooManyJobs", 409),
+        Refusal::StoreFault { .. } => numbered(28, "StoreFault", 503),
+        Refusal::Mem => numbered(29, "Mem", 507),
+        Refusal::CounterSpent { .. } => numbered(30, "CounterSpent", 409),
+        Refusal::NotAdmin { .. } => numbered(31, "NotAdmin", 403),
+        Refusal::AlreadyUndirected { .. } => numbered(32, "AlreadyUndirected", 409),
+        Refusal::TypeExists { .. } => numbered(33, "TypeExists", 409),
     }
+}
+
+// Puts a text and a number.
+fn put_text_and_number<'a, T: TextSink>(
+    text: &mut T,
+    first: (&'a str, &'a [u8]),
+    second: (&'a str, u64),
+) -> Result<(), Failed>
+    ensures wrote { Wrote result (T.told text.old) (T.told text.new) (text_field first.entry.0.now first.entry.1.now ++ number_field second.entry.0.now second.entry.1) }
+{
+    put_text_field(text, first.0, first.1)?;
+    put_number_field(text, second.0, second.1)
+}
+
+// Puts the fields of a refusal for a sum.
+fn put_sum<'a, T: TextSink>(
+    text: &mut T,
+    rel_type: &'a [u8],
+    key: &'a [u8],
+    ends: (u64, u64),
+) -> Result<(), Failed>
+    ensures wrote { Wrote result (T.told text.old) (T.told text.new)
+        (text_field (codes "type") rel_type.now ++ text_field (codes "key") key.now ++ number_field (codes "source") ends.0 ++ number_field (codes "target") ends.1) }
+{
+    put_text_field(text, "type", rel_type)?;
+    put_text_field(text, "key", key)?;
+    put_number_field(text, "source", ends.0)?;
+    put_number_field(text, "target", ends.1)
+}
+
+// Puts the fields of a refusal for a weight.
+fn put_weight<T: TextSink>(text: &mut T, ends: (u64, u64), weight: i64) -> Result<(), Failed>
+    ensures wrote { Wrote result (T.told text.old) (T.told text.new)
+        (number_field (codes "source") ends.0 ++ number_field (codes "target") ends.1 ++ whole_field (codes "weight") weight) }
+{
+    put_number_field(text, "source", ends.0)?;
+    put_number_field(text, "target", ends.1)?;
+    put_whole_field(text, "weight", weight)
+}
+
+// Puts the fields of a refusal for a graph that is gone.
+fn put_gone<T: TextSink>(text: &mut T, graph_name: &[u8], had: u64, now_: u64) -> Result<(), Failed>
+    ensures wrote { Wrote result (T.told text.old) (T.told text.new)
+        (text_field (codes "graphName") graph_name.now ++ number_field (codes "had") had ++ number_field (codes "now") now_) }
+{
+    put_text_field(text, "graphName", graph_name)?;
+    put_number_field(text, "had", had)?;
+    put_number_field(text, "now", now_)
+}
+
+// Puts the fields of a refusal for what is full.
+fn put_full<T: TextSink>(text: &mut T, which: &[u8], limit: u64, batches: u64) -> Result<(), Failed>
+    ensures wrote { Wrote result (T.told text.old) (T.told text.new)
+        (text_field (codes "which") which.now ++ number_field (codes "limit") limit ++ number_field (codes "batches") batches) }
+{
+    put_text_field(text, "which", which)?;
+    put_number_field(text, "limit", limit)?;
+    put_number_field(text, "batches", batches)
 }
 
 // Puts the fields of a refusal behind its number and its code.
-fn put_refusal_fields(text: &mut Vec<u8>, why: &Refusal) -> Result<(), Mem>
-    ensures { OnOk result (text.new.items ≡ text.old.items ++ refusal_fields why.now) }
+fn put_refusal_fields<T: TextSink>(text: &mut T, why: &Refusal) -> Result<(), Failed>
+    ensures wrote { Wrote result (T.told text.old) (T.told text.new) (refusal_fields why.now) }
 {
     match why {
         Refusal::BadHttp
@@ -96,14 +141,16 @@ fn put_refusal_fields(text: &mut Vec<u8>, why: &Refusal) -> Result<(), Mem>
         | Refusal::Transfer
         | Refusal::NoSuchProcedure
         | Refusal::BadJson
-        | Refusal::Mem => Ok(()),
+        | Refusal::Mem => text.put(b""),
         Refusal::TooLong { what, limit } => {
-            put_text_field(text, "what", part_word(*what).as_bytes())?;
-            put_number_field(text, "limit", *limit)
+            put_text_and_number(
+                text,
+                ("what", part_word(*what).as_bytes()),
+                ("limit", *limit),
+            )
         }
         Refusal::BadArgument { at, row } => {
-            put_text_field(text, "at", at.as_slice())?;
-            put_number_field(text, "row", *row)
+            put_text_and_number(text, ("at", at.as_slice()), ("row", *row))
         }
         Refusal::GraphExists { graph_name } | Refusal::NoSuchGraph { graph_name } => {
             put_text_field(text, "graphName", graph_name.bytes())
@@ -122,28 +169,30 @@ fn put_refusal_fields(text: &mut Vec<u8>, why: &Refusal) -> Result<(), Mem>
             key,
             source,
             target,
-        } => {
-            put_text_field(text, "type", rel_type.bytes())?;
-            put_text_field(text, "key", key.bytes())?;
-            put_number_field(text, "source", u64::from(*source))?;
-            put_number_field(text, "target", u64::from(*target))
-        }
+        } => put_sum(
+            text,
+            rel_type.bytes(),
+            key.bytes(),
+            (u64::from(*source), u64::from(*target)),
+        ),
         Refusal::FilterSyntax { filter, byte } | Refusal::FilterType { filter, byte } => {
-            put_text_field(text, "filter", side_word(*filter).as_bytes())?;
-            put_number_field(text, "byte", u64::from(*byte))
+            put_text_and_number(
+                text,
+                ("filter", side_word(*filter).as_bytes()),
+                ("byte", u64::from(*byte)),
+            )
         }
         Refusal::WeightOutOfRange {
             source,
             target,
             weight,
-        } => {
-            put_number_field(text, "source", u64::from(*source))?;
-            put_number_field(text, "target", u64::from(*target))?;
-            put_whole_field(text, "weight", *weight)
-        }
+        } => put_weight(text, (u64::from(*source), u64::from(*target)), *weight),
         Refusal::NoSuchEntity { kind, id } => {
-            put_text_field(text, "kind", kind_word(*kind).as_bytes())?;
-            put_number_field(text, "id", u64::from(*id))
+            put_text_and_number(
+                text,
+                ("kind", kind_word(*kind).as_bytes()),
+                ("id", u64::from(*id)),
+            )
         }
         Refusal::JobExists { job_id } | Refusal::NoSuchJob { job_id } => {
             put_text_field(text, "jobId", job_id.bytes())
@@ -155,47 +204,53 @@ fn put_refusal_fields(text: &mut Vec<u8>, why: &Refusal) -> Result<(), Mem>
             graph_name,
             had,
             now_,
-        } => {
-            put_text_field(text, "graphName", graph_name.bytes())?;
-            put_number_field(text, "had", u64::from(*had))?;
-            put_number_field(text, "now", u64::from(*now_))
-        }
+        } => put_gone(text, graph_name.bytes(), u64::from(*had), u64::from(*now_)),
         Refusal::Full {
             which,
             limit,
             batches,
-        } => {
-            put_text_field(text, "which", quantity_word(*which).as_bytes())?;
-            put_number_field(text, "limit", *limit)?;
-            put_number_field(text, "batches", u64::from(*batches))
-        }
+        } => put_full(
+            text,
+            quantity_word(*which).as_bytes(),
+            *limit,
+            u64::from(*batches),
+        ),
         Refusal::TooManyGraphs { limit } | Refusal::TooManyJobs { limit } => {
             put_number_field(text, "limit", *limit)
         }
         Refusal::CounterSpent { counter, last } => {
-            put_text_field(text, "counter", counter_word(*counter).as_bytes())?;
-            put_number_field(text, "last", *last)
+            put_text_and_number(
+                text,
+                ("counter", counter_word(*counter).as_bytes()),
+                ("last", *last),
+            )
         }
         Refusal::NotAdmin { username } => put_text_field(text, "username", username.bytes()),
     }
 }
 
-// Puts the number, the code and the fields of a refusal.
-#[tactic(auto, unfolding(crate::specs::Answers::refusal_body))]
-fn put_refusal_body(text: &mut Vec<u8>, why: &Refusal) -> Result<(), Mem>
-    ensures { OnOk result (text.new.items ≡ text.old.items ++ refusal_body why.now) }
+// Puts the front of the text of a refusal: its number and its code.
+fn put_refusal_head<T: TextSink>(text: &mut T, number: u64, code: &[u8]) -> Result<(), Failed>
+    ensures wrote { Wrote result (T.told text.old) (T.told text.new) (refusal_head number code.now) }
 {
-    put_first_field(text, "number", refusal_number(why))?;
-    put_text_field(text, "code", refusal_code(why).as_bytes())?;
-    put_refusal_fields(text, why)
+    text.put(b"{\"refused\":{")?;
+    put_first_field(text, "number", number)?;
+    put_text_field(text, "code", code)
+}
+
+// Puts the front of the text of a refusal.
+fn put_refusal_row<T: TextSink>(text: &mut T, why: &Refusal) -> Result<(), Failed>
+    ensures wrote { Wrote result (T.told text.old) (T.told text.new) (refusal_head (row_of why.now).number (row_of why.now).code) }
+{
+    let row = row_of(why);
+    put_refusal_head(text, row.number, row.code.as_bytes())
 }
 
 /// Puts the text of a refusal.
-pub(crate) fn put_refusal(text: &mut Vec<u8>, why: &Refusal) -> Result<(), Mem>
-    ensures { OnOk result (text.new.items ≡ text.old.items ++ refusal_text why.now) }
+pub(crate) fn put_refusal<T: TextSink>(text: &mut T, why: &Refusal) -> Result<(), Failed>
+    ensures wrote { Wrote result (T.told text.old) (T.told text.new) (refusal_text why.now) }
 {
-    put(text, b"{\"refused\":{")?;
-    put_refusal_body(text, why)?;
-    put(text, b"}}")?;
-    Ok(())
+    put_refusal_row(text, why)?;
+    put_refusal_fields(text, why)?;
+    text.put(b"}}")
 }

@@ -1,5 +1,5 @@
 -- The text that parts make.
-use Rattle.std.specs.Prelude.{ℕ, Bool, true, false, List, [], ◌∷◌, ◌++◌, map, codes, decimal}
+use Rattle.std.specs.Prelude.{ℕ, Bool, true, false, List, map, codes, decimal}
 use Rattle.std.specs.Fmt.{signed_decimal}
 use Rattle.std.specs.List.{concat}
 use Rattle.text_sinks.specs.declared.part.Part.{Part}
@@ -20,8 +20,3 @@ part_text (Flag flag) = flag_word flag
 -- the text of parts, one after another
 abbrev pub parts_text : List Part → List ℕ
 parts_text parts = concat (map part_text parts)
-
--- the texts of items, the first behind this text, and each later one behind a comma
-abbrev pub items_behind : {A : Type 0} → (A → List ℕ) → List ℕ → List A → List ℕ
-items_behind text before [] = []
-items_behind text before (item ∷ items) = before ++ text item ++ items_behind text (codes ",") items

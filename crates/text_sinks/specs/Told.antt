@@ -1,5 +1,5 @@
 -- What a sink of texts tells, and what putting a text does to it.
-use Rattle.std.specs.Prelude.{◌≡◌, ℕ, ◌+◌, ◌-◌, ◌^◌, min, List, [], ◌++◌, length, Option, None, Some, Result, Ok, Err}
+use Rattle.std.specs.Prelude.{◌≡◌, ℕ, ◌+◌, ◌-◌, ◌^◌, ◌≤◌, min, List, [], ◌++◌, length, Option, None, Some, Result, OnOk, OnErr}
 use Rattle.std.specs.Io.KnownBytes.{Appends}
 use Rattle.gds_causes.specs.Faults.{Rose}
 use Rattle.gds_causes.specs.Front.{AppendsFront}
@@ -36,11 +36,12 @@ pub record Stops (before after : Told) (text : List ℕ) : Type 0 where
   pub front : AppendsFront before.taken after.taken (before.waiting ++ text)
   pub held : after.flushed ≡ before.flushed
   pub fault : Rose before.faults after.faults
+  pub later : before.faults ≤ after.faults
 
 -- what an answer says of putting a text
-abbrev pub Wrote : {A E : Type 0} → Result A E → Told → Told → List ℕ → Type 0
-Wrote (Ok _) before after text = Puts before after text
-Wrote (Err _) before after text = Stops before after text
+pub record Wrote {A E : Type 0} (answer : Result A E) (before after : Told) (text : List ℕ) : Type 0 where
+  pub ok : OnOk answer (Puts before after text)
+  pub err : OnErr answer (Stops before after text)
 
 -- what a sink that counts tells
 abbrev pub counted : ℕ → Told

@@ -5,13 +5,11 @@
 //! full, so that a text of many small parts costs few writes.
 #![tactic(auto)]
 
-mod item;
 mod length_sink;
 mod part;
 mod piece_sink;
 mod text_sink;
 
-pub use item::{Item, put_items};
 pub use length_sink::LengthSink;
 pub use part::{Part, put_parts};
 pub use piece_sink::PieceSink;

@@ -10,6 +10,7 @@ use gds_causes::{Failed, Sink, write_all};
 const PIECE: usize = 8_192;
 
 /// Gathers the parts that are put in a piece of fixed size, and hands it on to a sink whenever it is full.
+#[derive(Drop)]
 pub struct PieceSink<'a, W> {
     sink: &'a mut W,
     piece: ArrayVec<u8, PIECE>,

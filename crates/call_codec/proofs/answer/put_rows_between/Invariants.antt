@@ -1,10 +1,15 @@
-use Rattle.std.proofs.Common.{◌≡◌, [], ◌++◌, drop, length}
+use Rattle.std.proofs.Common.{◌≡◌, ℕ, List, [], ◌++◌, drop, length}
 use Rattle.std.specs.List.{zip}
+use Rattle.text_sinks.specs.Told.{Puts}
 use Rattle.call_codec.specs.Answers.{items_behind, row_text}
 use Rattle.call_codec.proofs.answer.put_rows_between.Given as goal
 
--- the text, and the rows that are left, make the whole
+-- what was put, and the rows that are left, make the whole
 abbrev pub invariant-loop-id : goal.invariant-loop-id
-invariant-loop-id l =
-    l.fn.text.items ++ items_behind (row_text l.name) [] (zip l.ids l.values)
-    ≡ l.text.items ++ items_behind (row_text l.name) l.before (zip (drop (length l.yielded) l.ids) (drop (length l.yielded) l.values))
+invariant-loop-id g l = record {
+  written : List ℕ;
+  put : Puts (g.T.TextSink.told l.fn.text) (g.T.TextSink.told l.text) written;
+  whole :
+      written ++ items_behind (row_text l.name) l.before (drop (length l.yielded) (zip l.ids l.values))
+      ≡ items_behind (row_text l.name) [] (zip l.ids l.values);
+}

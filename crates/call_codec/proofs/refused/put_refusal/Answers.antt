@@ -1,10 +1,13 @@
-use Rattle.std.proofs.Common.{codes}
-use Rattle.call_codec.specs.Answers.{refusal_body}
-use Rattle.call_codec.proofs.Pieces.{three_pieces}
+use Rattle.std.proofs.Common.{rules, codes}
+use Rattle.text_sinks.proofs.ToldLemmas.{puts_then, stops_more, stops_then, wrote_err, wrote_then}
+use Rattle.call_codec.specs.Answers.{refusal_fields}
 use Rattle.call_codec.proofs.refused.put_refusal.Goals as goal
 
+pub returns-in_err-put_refusal_row : goal.returns-in_err-put_refusal_row
+returns-in_err-put_refusal_row g c = record { wrote = wrote_err (search rules) (stops_more (codes "}}") (stops_more (refusal_fields c.args.why.now) c.in_err-put_refusal_row.ensures.wrote.err)) }
+
+pub returns-in_err-put_refusal_fields : goal.returns-in_err-put_refusal_fields
+returns-in_err-put_refusal_fields g c = record { wrote = wrote_err (search rules) (stops_more (codes "}}") (stops_then c.in_ok-put_refusal_row.ensures.wrote.ok c.in_err-put_refusal_fields.ensures.wrote.err)) }
+
 pub returns : goal.returns
-returns c =
-    three_pieces c.args.text.now.items (codes "{\"refused\":{") (refusal_body c.args.why.now) (codes "}}")
-    c.put.new.text.items c.put_refusal_body.new.text.items c.put-2.new.text.items
-    c.in_ok-put.ensures c.in_ok-put_refusal_body.ensures c.in_ok-put-2.ensures
+returns g c = record { wrote = wrote_then (puts_then c.in_ok-put_refusal_row.ensures.wrote.ok c.in_ok-put_refusal_fields.ensures.wrote.ok) c.put.ensures.wrote }

@@ -13,10 +13,10 @@ returns-in_err-put_part g c =
     let i = c.loop-part.part-index in
     record {
       wrote =
-          wrote_err c.from_residual.result (search rules)
+          wrote_err (search rules)
           (stops_within (g.T.TextSink.told c.args.text.now) (g.T.TextSink.told c.loop-part.text) (g.T.TextSink.told c.put_part.new.text)
           c.loop-part.invariant.written _ (parts_text (drop (i + 1) parts)) (parts_text parts)
-          c.loop-part.invariant.put c.in_err-put_part.ensures.wrote
+          c.loop-part.invariant.put c.in_err-put_part.ensures.wrote.err
           (one_more part_text parts i _ c.loop-part.invariant.written _ (omega arith) c.loop-part.invariant.whole));
     }
 
@@ -27,7 +27,6 @@ loop-part-preserved g c =
     record {
       written = c.loop-part.invariant.written ++ _;
       put =
-          puts_then (g.T.TextSink.told c.args.text.now) (g.T.TextSink.told c.loop-part.text) (g.T.TextSink.told c.put_part.new.text)
-          c.loop-part.invariant.written _ c.loop-part.invariant.put c.in_ok-put_part.ensures.wrote;
+          puts_then c.loop-part.invariant.put c.in_ok-put_part.ensures.wrote.ok;
       whole = one_more part_text parts i _ c.loop-part.invariant.written _ (omega arith) c.loop-part.invariant.whole;
     }

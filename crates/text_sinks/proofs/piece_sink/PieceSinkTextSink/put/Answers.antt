@@ -14,11 +14,11 @@ returns g c =
     let kept : c.try_extend_from_slice.new.self.items ≡ old.piece.items = rw first refl in
     let empty : c.try_extend_from_slice-2.new.self.items ≡ [] = rw second c.in_ok-hand_on.ensures.piece in
     let told = gathered old.sink.ghost_name (g.W.Sink.taken old.sink.now) old.piece.items (g.W.Sink.flushed old.sink.now) (g.W.Sink.faults old.sink.now) in
-    let before = (rw (kept, c.in_ok-hand_on.ensures.piece) at c.in_ok-hand_on.ensures.wrote) in
+    let before = (rw (kept, c.in_ok-hand_on.ensures.piece) at c.in_ok-hand_on.ensures.wrote.ok) in
     let written =
     wrote_all c.write_all.result mid.sink.ghost_name (g.W.Sink.taken mid.sink.now) (g.W.Sink.taken after) (g.W.Sink.flushed mid.sink.now) (g.W.Sink.flushed after)
     (g.W.Sink.faults mid.sink.now) (g.W.Sink.faults after) c.args.part.now
-    c.write_all.ensures.ok c.write_all.ensures.err c.write_all.ensures.held c.write_all.ensures.fault c.write_all.ensures.calm in
+    c.write_all.ensures.ok c.write_all.ensures.err c.write_all.ensures.held c.write_all.ensures.fault c.write_all.ensures.calm c.write_all.ensures.later in
     record {
-      wrote = rw empty (wrote_then c.write_all.result told _ _ [] c.args.part.now before written);
+      wrote = rw empty (wrote_then before written);
     }

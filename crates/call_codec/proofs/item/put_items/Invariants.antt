@@ -1,7 +1,7 @@
 use Rattle.std.proofs.Common.{◌≡◌, ℕ, List, [], ◌++◌, drop}
 use Rattle.text_sinks.specs.Told.{Puts}
-use Rattle.text_sinks.specs.Parts.{items_behind}
-use Rattle.text_sinks.proofs.item.put_items.Given as goal
+use Rattle.call_codec.specs.Answers.{items_behind}
+use Rattle.call_codec.proofs.item.put_items.Given as goal
 
 -- what was put, and the items that are left, make the whole
 abbrev pub invariant-loop-item : goal.invariant-loop-item

@@ -1,0 +1,12 @@
+use Rattle.std.proofs.Common.{rules}
+use Rattle.text_sinks.proofs.ToldLemmas.{puts_then, stops_more, stops_then, wrote_err, wrote_then}
+use Rattle.call_codec.proofs.refused.put_full.Goals as goal
+
+pub returns-in_err-put_text_field : goal.returns-in_err-put_text_field
+returns-in_err-put_text_field g c = record { wrote = wrote_err (search rules) (stops_more _ (stops_more _ c.in_err-put_text_field.ensures.wrote.err)) }
+
+pub returns-in_err-put_number_field : goal.returns-in_err-put_number_field
+returns-in_err-put_number_field g c = record { wrote = wrote_err (search rules) (stops_more _ (stops_then c.in_ok-put_text_field.ensures.wrote.ok c.in_err-put_number_field.ensures.wrote.err)) }
+
+pub returns : goal.returns
+returns g c = record { wrote = wrote_then (puts_then c.in_ok-put_text_field.ensures.wrote.ok c.in_ok-put_number_field.ensures.wrote.ok) c.put_number_field-2.ensures.wrote }
