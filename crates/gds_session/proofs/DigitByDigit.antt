@@ -1,5 +1,5 @@
 -- Reading the digits of a number one by one.
-use Rattle.std.proofs.Common.{◌≡◌, ℕ, ◌+◌, ◌*◌, ◌<◌, ◌≤◌, ◌-◌, Bool, true, false, ◌&&◌, cond, List, [], ◌∷◌, length, take, drop, get_or, nat_lt, refl, ap, sym, ◌∙◌, arith, ltb-false, le-ltb, lt-ltb, Option, Some, None}
+use Rattle.std.proofs.Common.{◌≡◌, ℕ, ◌+◌, ◌*◌, ◌<◌, ◌≤◌, ◌-◌, Bool, true, false, ◌&&◌, cond, List, [], ◌∷◌, length, drop, get_or, nat_lt, refl, ap, arith, le-ltb, lt-ltb, Some, None}
 use Rattle.std.proofs.Common.{drop-cons, add-one}
 use Rattle.std.specs.Char.{is_ascii_digit, digit_value}
 use Rattle.std.specs.Str.{all_ascii_digits}

@@ -1,5 +1,5 @@
 -- The arc that the first line of a text says, from the parts of that line.
-use Rattle.std.proofs.Common.{◌≡◌, ℕ, ◌+◌, ◌<◌, ◌≤◌, ◌^◌, List, [], ◌∷◌, ◌++◌, length, decimal, codes, refl, ap, sym, ◌∙◌, arith, append_assoc, append-nil, length-append}
+use Rattle.std.proofs.Common.{◌≡◌, ℕ, ◌<◌, ◌≤◌, ◌^◌, List, [], ◌∷◌, ◌++◌, length, decimal, codes, ap, sym, ◌∙◌, arith, append_assoc, append-nil, length-append}
 use Rattle.gds_session.specs.OnceText.{lines_of}
 use Rattle.gds_session.specs.Reading.{IsArcLine}
 use Rattle.gds_session.proofs.Lines.{lines_of-line, lines_of-last}

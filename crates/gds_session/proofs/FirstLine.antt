@@ -1,5 +1,5 @@
 -- The first line of a text, by the place of its LF.
-use Rattle.std.proofs.Common.{◌≡◌, ℕ, ◌+◌, ◌<◌, ◌==◌, Bool, true, false, not, cond, List, [], ◌∷◌, length, take, drop, refl, ap, sym, ◌∙◌, arith, add_comm, add-one}
+use Rattle.std.proofs.Common.{◌≡◌, ℕ, ◌+◌, ◌<◌, ◌==◌, Bool, true, false, not, cond, List, [], ◌∷◌, length, take, drop, refl, arith, add_comm, add-one}
 use Rattle.std.specs.List.{position_or_len}
 use Rattle.gds_session.specs.OnceText.{lines_of, onto_first}
 use Rattle.gds_session.specs.Reading.{is_byte}

@@ -1,16 +1,15 @@
 -- Lines that come in pieces.
-use Rattle.std.proofs.Common.{◌≡◌, ℕ, ◌+◌, ◌-◌, ◌≤◌, Bool, true, false, List, [], ◌∷◌, ◌++◌, length, Option, Some, None, refl, sym, ap, ◌∙◌, subst, arith, append_assoc, append-nil, length-append}
+use Rattle.std.proofs.Common.{◌≡◌, ℕ, ◌+◌, Bool, true, false, List, [], ◌∷◌, ◌++◌, length, refl, sym, ap, ◌∙◌, arith, append_assoc, append-nil}
 use Rattle.std.specs.List.{list_any, position_or_len}
-use Rattle.std.specs.Prelude.{take, drop, not}
+use Rattle.std.specs.Prelude.{take, drop}
 use Rattle.std.proofs.lemmas.Bool.{cases_Bool, eqb-true}
-use Rattle.std.proofs.Common.{suc, zero, add-one, ⊎_elim, cond, eqb}
+use Rattle.std.proofs.Common.{suc, ⊎_elim}
 use Rattle.std.proofs.lemmas.List.Folds.{list_any-append}
-use Rattle.std.specs.Io.KnownBytes.{Consumes, IsAtEnd, Keeps}
 use Rattle.call_codec.specs.Lines.{Item, line_items, is_lf, rest_of, asked_by_line}
-use Rattle.call_codec.proofs.LineLemmas.{first_line_is_cut, last_line_waits, pieces_are_joined, rest_of-cut, rest_of-whole, rest_of-no_lf, rest_of-join}
+use Rattle.call_codec.proofs.LineLemmas.{first_line_is_cut, last_line_waits, rest_of-cut, rest_of-whole}
 use Rattle.gds_session.specs.declared.degrees.WriteStop.{WriteStop}
 use Rattle.gds_session.specs.declared.degrees.WriteStop.TheVariants as stop
-use Rattle.gds_session.specs.Serving.{Moment, Serves, Halts, IsPending, asks_with, IsCut, ServesPiece, HaltsPiece, EndsWith, HaltsWithin}
+use Rattle.gds_session.specs.Serving.{Moment, Serves, Halts, IsPending, asks_with, IsCut}
 use Rattle.gds_session.proofs.ServingLemmas.{serves_nothing, serves_on, halts_after, halts_before, halts_unbegun, asks_is}
 
 -- so far within a piece: what waits now, with the rest, asks what is left to answer

@@ -1,16 +1,14 @@
 -- Items that are answered one after another.
-use Rattle.std.proofs.Common.{◌≡◌, ◌≢◌, ◌⊎◌, inl, inr, ℕ, ◌+◌, ◌-◌, ◌^◌, ◌<◌, ◌≤◌, min, Bool, true, false, cond, List, [], ◌∷◌, ◌++◌, length, Option, Some, None, refl, sym, ap, ◌∙◌, subst, ⊎_elim, arith, append_assoc, append-nil, length-append}
+use Rattle.std.proofs.Common.{◌≡◌, inl, inr, ℕ, ◌<◌, ◌≤◌, Bool, true, false, cond, List, [], ◌∷◌, ◌++◌, length, Option, Some, None, refl, sym, ap, ◌∙◌, subst, ⊎_elim, arith, append_assoc, append-nil, length-append}
 use Rattle.std.specs.Prelude.{IsTrue, nat_lt}
-use Rattle.std.specs.List.{AllByRecursion, count_by, sum_by}
+use Rattle.std.specs.List.{AllByRecursion, sum_by}
 use Rattle.std.proofs.lemmas.List.Sums.{sum_by-append, sum_by-cons}
-use Rattle.std.specs.Str.{bytes_eq}
-use Rattle.std.specs.Cmp.Lexicographic.{bytes_decides}
 use Rattle.std.proofs.lemmas.Bool.{cases_Bool, true≢false, lt-ltb, le-ltb}
 use Rattle.std.specs.Io.KnownBytes.{Appends}
 use Rattle.std.specs.Io.KnownBytes.{Keeps}
 use Rattle.std.proofs.lemmas.List.{take-append-drop}
 use Rattle.std.specs.Prelude.{take, drop}
-use Rattle.std.specs.Prelude.{Result, Ok, Err, OnOk, IfErr}
+use Rattle.std.specs.Prelude.{Result, Ok, Err, OnOk, OnErr, IfErr}
 use Rattle.std.specs.Result.{is_err}
 use Rattle.gds_causes.specs.Faults.{Rose}
 use Rattle.gds_causes.specs.Front.{AppendsFront}
@@ -19,19 +17,18 @@ use Rattle.graph_model.specs.declared.refusal.Refusal.TheVariants as refusal
 use Rattle.graph_model.specs.declared.refusal.LongPart.TheVariants as long
 use Rattle.graph_model.specs.Refusals.{UnlessMem}
 use Rattle.desk_model.specs.declared.asked.Event.{Event}
-use Rattle.desk_model.specs.declared.asked.Event.TheVariants as event
 use Rattle.desk_model.specs.declared.call.Call.{Call}
 use Rattle.desk_model.specs.declared.call.Call.TheVariants as call
 use Rattle.desk_model.specs.State.{State}
 use Rattle.desk_model.specs.Replies.{PlainReply, Refused}
 use Rattle.desk_model.specs.Step.{IsStep, mark_of, is_fault}
-use Rattle.desk_model.specs.History.{HistoryEntry, AreLegal, IsLegalEntry, Permits, own_entries, state_after, state_after_entry}
+use Rattle.desk_model.specs.History.{HistoryEntry, AreLegal, Permits, own_entries, state_after, state_after_entry}
 use Rattle.desk_model.specs.Script.{IsScript, IsFormedCall}
 use Rattle.call_codec.specs.Answers.{line_answer}
 use Rattle.call_codec.specs.Lines.{Item, Calls, Refuses, line_item, is_blank, asked_by_line, most_line_bytes}
 use Rattle.gds_session.specs.declared.degrees.WriteStop.{WriteStop}
 use Rattle.gds_session.specs.declared.degrees.WriteStop.TheVariants as stop
-use Rattle.gds_session.specs.Serving.{IsAnswered, AreAnswered, IsFront, IsBegun, is_flagged, Counts, IsOfShell, Leads, Moment, moment, Performs, Serves, IsHeldBack, TookFront, Halts, IsPending, asks_with, event_for}
+use Rattle.gds_session.specs.Serving.{IsAnswered, AreAnswered, IsBegun, is_flagged, Counts, IsOfShell, Leads, Moment, moment, Performs, Serves, TookFront, Halts, IsPending, asks_with, event_for, stopped_by}
 use Rattle.gds_session.proofs.Bytes.{Appends-more, Appends-nothing}
 
 -- ---- entries
@@ -118,7 +115,7 @@ halts_after why items others old mid new first second = record {
   cut = ap (λ t. items ++ t) second.cut ∙ sym (append_assoc items second.done second.left);
   answered = answered_on items second.done first.entries second.entries first.written second.written first.answered second.answered;
   next = second.next;
-  held = second.held;
+  unbegun = second.unbegun;
   leads = rw (append_assoc first.entries second.entries second.begun) (leads_on first.entries (second.entries ++ second.begun) old.state mid.state new.state old.faults mid.faults new.faults first.leads second.leads);
   appended = rw (append_assoc first.written second.written second.front) (Appends-more old.taken mid.taken new.taken first.written (second.written ++ second.front) first.appended second.appended);
 }
@@ -134,7 +131,7 @@ halts_before why items others old new h = record {
   cut = ap (λ t. t ++ others) h.cut ∙ append_assoc h.done h.left others;
   answered = h.answered;
   next = begun_on h.left others h.begun h.front h.next;
-  held = h.held;
+  unbegun = h.unbegun;
   leads = h.leads;
   appended = h.appended;
 }
@@ -150,7 +147,7 @@ halts_unbegun items old new s = record {
   cut = sym (append-nil items);
   answered = s.answered;
   next = (refl, refl);
-  held = refl;
+  unbegun = (refl, refl);
   leads = rw (append-nil s.entries) s.leads;
   appended = rw (append-nil s.written) s.appended;
 }
@@ -166,8 +163,8 @@ serves_one item reply a b f g s t p appended = record {
   appended = appended;
 }
 
-pub halts_one : (why : WriteStop) (item : Item) (reply : PlainReply) (a b : State) (f g : ℕ) (s t : Option (List ℕ)) → Performs item reply a b f g → TookFront why s t (line_answer reply) → Halts why (item ∷ []) (moment a f s) (moment b g t)
-halts_one why item reply a b f g s t p took = record {
+pub halts_one : (item : Item) (reply : PlainReply) (a b : State) (f g : ℕ) (s t : Option (List ℕ)) → Performs item reply a b f g → TookFront s t (line_answer reply) → Halts stop.Fault (item ∷ []) (moment a f s) (moment b g t)
+halts_one item reply a b f g s t p took = record {
   done = [];
   left = item ∷ [];
   entries = [];
@@ -177,9 +174,9 @@ halts_one why item reply a b f g s t p took = record {
   cut = refl;
   answered = (refl, refl);
   next = inr (reply, p.answered, took.1);
-  held = took.2;
+  unbegun = tt;
   leads = p.leads;
-  appended = took.3;
+  appended = took.2;
 }
 
 -- ---- the desk's step
@@ -292,8 +289,8 @@ performs_call item user asked performed reply a b f g item_is event_is formed is
 
 -- ---- what a sink took
 
-pub took_front : (before after : Option (List ℕ)) (text : List ℕ) → AppendsFront before after text → TookFront stop.Fault before after text
-took_front before after text h = (take h.0 text, (drop h.0 text, sym (take-append-drop h.0 text)), tt, h.2)
+pub took_front : (before after : Option (List ℕ)) (text : List ℕ) → AppendsFront before after text → TookFront before after text
+took_front before after text h = (take h.0 text, (drop h.0 text, sym (take-append-drop h.0 text)), h.2)
 
 keeps_on : (a b c : Option (List ℕ)) (text : List ℕ) → Appends a b text → Keeps b c → Appends a c text
 keeps_on None b c text appended kept = tt
@@ -302,21 +299,35 @@ keeps_on (Some x) (Some y) None text appended kept = absurd kept
 keeps_on (Some x) (Some y) (Some z) text appended kept = kept ∙ appended
 
 -- all of it, also where it can't be handed on
-pub took_all : (a b c : Option (List ℕ)) (text : List ℕ) → Appends a b text → Keeps b c → TookFront stop.Fault a c text
-took_all a b c text appended kept = (text, ([], sym (append-nil text)), tt, keeps_on a b c text appended kept)
-
-pub took_nothing : (a : Option (List ℕ)) (text : List ℕ) → TookFront stop.OutOfMemory a a text
-took_nothing a text = ([], (text, refl), refl, Appends-nothing a)
+pub took_all : (a b c : Option (List ℕ)) (text : List ℕ) → Appends a b text → Keeps b c → TookFront a c text
+took_all a b c text appended kept = (text, ([], sym (append-nil text)), keeps_on a b c text appended kept)
 
 -- ---- clauses on results
 
-pub on_ok : (r : Result (Unit {0}) WriteStop) (P Q : Type 0) → (P → Q) → OnOk r P → OnOk r Q
+pub on_ok : {T E : Type 0} (r : Result T E) (P Q : Type 0) → (P → Q) → OnOk r P → OnOk r Q
 on_ok (Ok done) P Q then h = then h
 on_ok (Err why) P Q then h = tt
 
 pub if_err : (r : Result (Unit {0}) WriteStop) (P Q : WriteStop → Type 0) → ((why : WriteStop) → P why → Q why) → IfErr r P → IfErr r Q
 if_err (Ok done) P Q then h = tt
 if_err (Err why) P Q then h = then why h
+
+pub on_err : {T E : Type 0} (r : Result T E) (P Q : Type 0) → (P → Q) → OnErr r P → OnErr r Q
+on_err (Ok done) P Q then h = tt
+on_err (Err why) P Q then h = then h
+
+pub at_err : {T E : Type 0} {P : Type 0} (r : Result T E) → P → OnErr r P
+at_err (Ok done) h = tt
+at_err (Err why) h = h
+
+-- what holds after a write, and after one that failed
+pub stopped_ok : {E : Type 0} (r : Result (Unit {0}) E) (P : Type 0) → OnOk r P → OnOk (stopped_by r) P
+stopped_ok (Ok done) P h = h
+stopped_ok (Err why) P h = tt
+
+pub stopped_err : {E : Type 0} (r : Result (Unit {0}) E) (P : WriteStop → Type 0) → OnErr r (P stop.Fault) → IfErr (stopped_by r) P
+stopped_err (Ok done) P h = tt
+stopped_err (Err why) P h = h
 
 -- what can't be begun for want of memory
 pub halts_at_once : (items : List Item) (now : Moment) → Halts stop.OutOfMemory items now now

@@ -1,19 +1,18 @@
 -- A shell, one read after another.
-use Rattle.std.proofs.Common.{◌≡◌, ℕ, ◌+◌, ◌-◌, ◌<◌, ◌≤◌, Bool, true, false, List, [], ◌∷◌, ◌++◌, length, Option, Some, None, refl, sym, ap, ◌∙◌, subst, arith, append_assoc, append-nil, length-append}
+use Rattle.std.proofs.Common.{◌≡◌, ℕ, ◌+◌, ◌-◌, ◌<◌, ◌≤◌, Bool, true, false, List, [], ◌∷◌, ◌++◌, length, Option, Some, None, refl, sym, ap, ◌∙◌, arith, append_assoc, append-nil, length-append}
 use Rattle.std.specs.List.{list_any}
-use Rattle.std.specs.Io.KnownBytes.{Consumes, IsAtEnd, Keeps}
+use Rattle.std.specs.Io.KnownBytes.{Consumes, IsAtEnd}
 use Rattle.call_codec.specs.Lines.{Item, line_items, is_lf, rest_of, asked_by_line}
 use Rattle.call_codec.proofs.LineLemmas.{last_line_waits, pieces_are_joined, rest_of-no_lf, rest_of-join}
 use Rattle.gds_session.specs.declared.ends.End.{End}
 use Rattle.gds_session.specs.declared.ends.End.TheVariants as end
 use Rattle.gds_session.specs.declared.input.ReadStop.{ReadStop}
 use Rattle.gds_session.specs.declared.input.ReadStop.TheVariants as read
-use Rattle.gds_session.specs.declared.asking.Turn.{Turn}
 use Rattle.gds_session.specs.declared.asking.Turn.TheVariants as turn
 use Rattle.gds_session.specs.declared.degrees.WriteStop.{WriteStop}
 use Rattle.gds_session.specs.declared.degrees.WriteStop.TheVariants as stop
 use Rattle.gds_session.specs.Serving.{Moment, Serves, Halts, HaltsWithin, EndsWith, EndsBy, IsPending, asks_with, ServesPiece, HaltsPiece, TurnEnds, Turned, Shelled, ShellEnds, end_of_stop, end_of_read}
-use Rattle.gds_session.proofs.ServingLemmas.{serves_nothing, serves_on, halts_after, halts_before, halts_unbegun, halts_at_once, asks_is}
+use Rattle.gds_session.proofs.ServingLemmas.{serves_nothing, serves_on, halts_after, halts_before, halts_at_once, asks_is}
 
 -- ---- what a source gave
 

@@ -6,14 +6,14 @@
 --   Serves items ..                     all items were answered
 --   Halts stop items ..                 a front of the items was answered, and then it stopped
 --   ShellEnds end ..                    how a shell ends
-use Rattle.std.specs.Prelude.{◌≡◌, ◌⊎◌, ℕ, ◌+◌, ◌-◌, ◌^◌, ◌<◌, ◌≤◌, min, Bool, true, false, List, [], ◌∷◌, ◌++◌, length, count_by, Option, Some, None}
+use Rattle.std.specs.Prelude.{◌≡◌, ◌⊎◌, ℕ, ◌+◌, ◌-◌, ◌^◌, ◌<◌, ◌≤◌, min, Bool, true, false, List, [], ◌∷◌, ◌++◌, length, count_by, Option, Some, None, Result, Ok, Err}
 use Rattle.std.specs.Io.KnownBytes.{Appends, Consumes, IsAtEnd}
 use Rattle.std.specs.List.{AllByRecursion, list_any}
 use Rattle.graph_model.specs.declared.refusal.Refusal.TheVariants as refusal
 use Rattle.graph_model.specs.declared.refusal.LongPart.TheVariants as long
 use Rattle.desk_model.specs.State.{State}
 use Rattle.desk_model.specs.Replies.{PlainReply, Refused}
-use Rattle.desk_model.specs.History.{HistoryEntry, AreLegal, IsLegal, state_after}
+use Rattle.desk_model.specs.History.{HistoryEntry, AreLegal, state_after}
 use Rattle.desk_model.specs.Script.{IsScript}
 use Rattle.desk_model.specs.declared.call.Call.{Call}
 use Rattle.desk_model.specs.declared.call.Call.TheVariants as call
@@ -94,16 +94,22 @@ pub record Serves (items : List Item) (old new : Moment) : Type 0 where
   pub leads : Leads entries old.state new.state old.faults new.faults
   pub appended : Appends old.taken new.taken written
 
--- nothing of an answer was written where no memory was to be had
-abbrev pub IsHeldBack : WriteStop → List ℕ → Type 0
-IsHeldBack stop.Fault front = Unit {0}
-IsHeldBack stop.OutOfMemory front = front ≡ []
+-- where no memory was to be had the next item wasn't begun: no entry was made and nothing was written
+abbrev pub IsUnbegun : WriteStop → List HistoryEntry → List ℕ → Type 0
+IsUnbegun stop.Fault entries front = Unit {0}
+IsUnbegun stop.OutOfMemory entries front = (entries ≡ []) × (front ≡ [])
 
--- a sink took a front of a text, and nothing where no memory was to be had
-abbrev pub TookFront : WriteStop → Option (List ℕ) → Option (List ℕ) → List ℕ → Type 0
-TookFront why before after text = (front : List ℕ) × IsFront front text × IsHeldBack why front × Appends before after front
+-- a sink took a front of a text
+abbrev pub TookFront : Option (List ℕ) → Option (List ℕ) → List ℕ → Type 0
+TookFront before after text = (front : List ℕ) × IsFront front text × Appends before after front
 
--- a front of the items was answered; then it stopped, maybe with the entries of the next item made and a front of its answer written
+-- a failed write as a stop
+abbrev pub stopped_by : {A E : Type 0} → Result A E → Result A WriteStop
+stopped_by (Ok value) = Ok value
+stopped_by (Err why) = Err stop.Fault
+
+-- a front of the items was answered; then it stopped: at a fault maybe with the entries of the next item made and a front of its
+-- answer written, and for want of memory before the next item
 pub record Halts (why : WriteStop) (items : List Item) (old new : Moment) : Type 0 where
   pub done : List Item
   pub left : List Item
@@ -114,7 +120,7 @@ pub record Halts (why : WriteStop) (items : List Item) (old new : Moment) : Type
   pub cut : items ≡ done ++ left
   pub answered : AreAnswered done entries written
   pub next : IsBegun left begun front
-  pub held : IsHeldBack why front
+  pub unbegun : IsUnbegun why begun front
   pub leads : Leads (entries ++ begun) old.state new.state old.faults new.faults
   pub appended : Appends old.taken new.taken (written ++ front)
 

@@ -1,20 +1,22 @@
 // Lines that are answered one after another, as they come in pieces.
-ghost use Rattle.std.specs.Prelude.{◌≡◌, ◌≤◌, ℕ, List, [], ◌++◌, true, false, length, Err, IsTrue, IfOk, OnOk, IfErr, MatchOption};
+ghost use Rattle.std.specs.Prelude.{◌≡◌, ◌≤◌, ℕ, List, [], ◌++◌, true, false, length, Err, IsTrue, OnOk, OnErr, IfErr, MatchOption};
 ghost use Rattle.std.specs.Io.KnownBytes.{Appends};
+ghost use Rattle.std.specs.Option.{option_map};
 ghost use Rattle.std.specs.List.{list_any};
 ghost use Rattle.gds_causes.specs.Faults.{Rose};
 ghost use Rattle.desk_model.specs.Replies.{plain_reply, Refused};
 ghost use Rattle.desk_core.specs.Fields.{state_of};
 ghost use Rattle.call_codec.specs.Answers.{line_answer};
 ghost use Rattle.call_codec.specs.Lines.{asked_by_line, is_lf, line_items, most_line_bytes, rest_of};
-ghost use Rattle.gds_session.specs.Serving.{Halts, HaltsPiece, IsCut, IsPending, Serves, ServesPiece, TookFront, asks_with, moment};
+ghost use Rattle.gds_session.specs.declared.degrees.WriteStop.TheVariants as stop;
+ghost use Rattle.gds_session.specs.Serving.{Halts, HaltsPiece, IsCut, IsPending, Serves, ServesPiece, TookFront, asks_with, moment, stopped_by};
 
 use crate::degrees::WriteStop;
 use crate::once::place_of;
 use crate::performing::perform;
-use call_codec::{answer_text, is_blank};
+use call_codec::{is_blank, line_write};
 use desk_core::{Desk, Reply};
-use gds_causes::{Sink, write_all};
+use gds_causes::{Failed, Sink};
 use graph_model::{LongPart, Mem, Refusal};
 use std::alloc::Global;
 use store_keeper::Keeper;
@@ -79,52 +81,31 @@ impl Pending {
     }
 }
 
-/// The text of a reply, and an LF.
-fn line_text(alloc: Global, reply: &Reply) -> Result<Vec<u8>, Mem>
-    ensures { IfOk result (λ text. text.items ≡ line_answer (plain_reply reply.now)) }
-{
-    let mut text = answer_text(alloc, reply)?.into_vec();
-    text.push(b'\n')?;
-    Ok(text)
-}
-
-/// The text of a reply, and an LF; the reply is gone.
-fn text_of(alloc: Global, reply: Reply) -> Result<Vec<u8>, Mem>
-    ensures { IfOk result (λ text. text.items ≡ line_answer (plain_reply reply)) }
-{
-    let text = line_text(alloc, &reply);
-    drop(reply);
-    text
-}
-
-/// Writes a text, and flushes.
-fn write_text<W: Sink>(sink: &mut W, text: &[u8]) -> Result<(), WriteStop>
-    ensures ok { OnOk result (Appends (W.taken sink.old) (W.taken sink.new) text.now) }
-    ensures err { IfErr result (λ why. TookFront why (W.taken sink.old) (W.taken sink.new) text.now) }
-    ensures fault { result ≡ Err WriteStop.Fault → Rose (W.faults sink.old) (W.faults sink.new) }
+/// Writes the answer to a reply and an LF, and flushes.
+fn answer<W: Sink>(sink: &mut W, reply: &Reply) -> Result<(), Failed>
+    ensures ok { OnOk result (Appends (W.taken sink.old) (W.taken sink.new) (line_answer (plain_reply reply.now))) }
+    ensures err { OnErr result (TookFront (W.taken sink.old) (W.taken sink.new) (line_answer (plain_reply reply.now))) }
+    ensures fault { OnErr result (Rose (W.faults sink.old) (W.faults sink.new)) }
+    ensures calm { OnOk result (W.faults sink.new ≡ W.faults sink.old) }
+    ensures flushed { OnOk result (W.flushed sink.new ≡ option_map length (W.taken sink.new)) }
     ensures later { W.faults sink.old ≤ W.faults sink.new }
 {
-    match write_all(sink, text) {
-        Ok(()) => {}
-        Err(_) => return Err(WriteStop::Fault),
-    }
-    match sink.flush() {
-        Ok(()) => Ok(()),
-        Err(_) => Err(WriteStop::Fault),
-    }
+    line_write(reply, sink)?;
+    sink.flush()
 }
 
-/// Writes the text of a reply and an LF, and flushes.
-fn answer<W: Sink>(alloc: Global, sink: &mut W, reply: Reply) -> Result<(), WriteStop>
+/// Answers with a reply, which is gone then.
+fn answer_with<W: Sink>(sink: &mut W, reply: Reply) -> Result<(), Failed>
     ensures ok { OnOk result (Appends (W.taken sink.old) (W.taken sink.new) (line_answer (plain_reply reply))) }
-    ensures err { IfErr result (λ why. TookFront why (W.taken sink.old) (W.taken sink.new) (line_answer (plain_reply reply))) }
-    ensures fault { result ≡ Err WriteStop.Fault → Rose (W.faults sink.old) (W.faults sink.new) }
+    ensures err { OnErr result (TookFront (W.taken sink.old) (W.taken sink.new) (line_answer (plain_reply reply))) }
+    ensures fault { OnErr result (Rose (W.faults sink.old) (W.faults sink.new)) }
+    ensures calm { OnOk result (W.faults sink.new ≡ W.faults sink.old) }
+    ensures flushed { OnOk result (W.flushed sink.new ≡ option_map length (W.taken sink.new)) }
     ensures later { W.faults sink.old ≤ W.faults sink.new }
 {
-    match text_of(alloc, reply) {
-        Ok(text) => write_text(sink, &text),
-        Err(Mem) => Err(WriteStop::OutOfMemory),
-    }
+    let answered = answer(sink, &reply);
+    drop(reply);
+    answered
 }
 
 /// Answers a line that is whole and not too long.
@@ -133,22 +114,33 @@ fn serve_line<W: Sink, K: Keeper>(
     sink: &mut W,
     desk: &mut Desk<K>,
     line: &[u8],
-) -> Result<(), WriteStop>
+) -> Result<(), Failed>
     requires { length line.now ≤ most_line_bytes }
     ensures ok { OnOk result (Serves (asked_by_line line.now)
         (moment (state_of desk.old) (K.faults desk.old.keeper) (W.taken sink.old))
         (moment (state_of desk.new) (K.faults desk.new.keeper) (W.taken sink.new))) }
-    ensures err { IfErr result (λ why. Halts why (asked_by_line line.now)
+    ensures err { OnErr result (Halts stop.Fault (asked_by_line line.now)
         (moment (state_of desk.old) (K.faults desk.old.keeper) (W.taken sink.old))
         (moment (state_of desk.new) (K.faults desk.new.keeper) (W.taken sink.new))) }
-    ensures fault { result ≡ Err WriteStop.Fault → Rose (W.faults sink.old) (W.faults sink.new) }
+    ensures fault { OnErr result (Rose (W.faults sink.old) (W.faults sink.new)) }
+    ensures calm { OnOk result (W.faults sink.new ≡ W.faults sink.old) }
     ensures later { W.faults sink.old ≤ W.faults sink.new }
 {
     if is_blank(line) {
         return Ok(());
     }
     let reply = perform(alloc, desk, line);
-    answer(alloc, sink, reply)
+    answer_with(sink, reply)
+}
+
+/// A failed write as a stop.
+fn stop_of(written: Result<(), Failed>) -> Result<(), WriteStop>
+    ensures { result ≡ stopped_by written }
+{
+    match written {
+        Ok(()) => Ok(()),
+        Err(Failed) => Err(WriteStop::Fault),
+    }
 }
 
 /// Answers a line of which these bytes are the tail.
@@ -171,18 +163,18 @@ pub(crate) fn serve_whole<W: Sink, K: Keeper>(
     ensures later { W.faults sink.old ≤ W.faults sink.new }
 {
     if pending.is_fresh() && tail.len() <= MOST_LINE_BYTES {
-        return serve_line(alloc, sink, desk, tail);
+        return stop_of(serve_line(alloc, sink, desk, tail));
     }
     if pending.keep(tail).is_err() {
         return Err(WriteStop::OutOfMemory);
     }
     if pending.long {
         pending.clear();
-        return answer(alloc, sink, too_long());
+        return stop_of(answer_with(sink, too_long()));
     }
     let served = serve_line(alloc, sink, desk, pending.bytes.as_slice());
     pending.clear();
-    served
+    stop_of(served)
 }
 
 /// What a line that is too long is answered with.

@@ -1,4 +1,4 @@
-use Rattle.std.proofs.Common.{◌≡◌, Ok, inr, sym, ap, ◌∙◌}
+use Rattle.std.proofs.Common.{inr, sym, ap, ◌∙◌}
 use Rattle.gds_session.specs.OnceText.{degree_lines, once_text}
 use Rattle.gds_session.proofs.Bytes.{wrote_front}
 use Rattle.gds_session.proofs.command.print_degrees.Goals as goal

@@ -1,4 +1,4 @@
-use Rattle.std.proofs.Common.{◌≡◌, ◌++◌, ◌+◌, length, drop, ◌∙◌, ap, arith}
+use Rattle.std.proofs.Common.{◌++◌, ◌+◌, length, drop, ◌∙◌, ap, arith}
 use Rattle.gds_causes.specs.Front.{AppendsFront}
 use Rattle.gds_session.specs.Ending.{line_of_degree, lines_of_rows}
 use Rattle.gds_session.proofs.Bytes.{Appends-more, front_of, front_written, line_waits, piece_written, OnErr-map}

@@ -1,4 +1,4 @@
-use Rattle.std.proofs.Common.{◌≡◌, ◌≤◌, ◌+◌, sym, get_or, drop, arith}
+use Rattle.std.proofs.Common.{sym, arith}
 use Rattle.gds_session.proofs.DigitByDigit.{digits_below-large, digits_value-reaches}
 use Rattle.gds_session.proofs.once.digits_below.Goals as goal
 

@@ -1,4 +1,4 @@
-use Rattle.std.proofs.Common.{◌≡◌, ◌+◌, [], ◌∷◌, length, length-append, sym, ◌∙◌, ap, arith}
+use Rattle.std.proofs.Common.{◌+◌, [], ◌∷◌, length, length-append, sym, ◌∙◌, ap, arith}
 use Rattle.gds_session.specs.OnceText.{arcs_of, lines_of}
 use Rattle.gds_session.specs.Printing.{JoinsNodes}
 use Rattle.gds_session.specs.Reading.{with_arcs}

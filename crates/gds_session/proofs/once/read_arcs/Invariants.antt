@@ -1,4 +1,4 @@
-use Rattle.std.proofs.Common.{◌≡◌, ◌≤◌, ◌+◌, length, vec_len}
+use Rattle.std.proofs.Common.{◌≡◌, ◌≤◌, ◌+◌, length}
 use Rattle.std.specs.List.{AllByRecursion}
 use Rattle.gds_session.specs.OnceText.{most_arcs, lines_of, arcs_of}
 use Rattle.gds_session.specs.Printing.{JoinsNodes}

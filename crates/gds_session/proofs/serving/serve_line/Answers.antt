@@ -3,8 +3,9 @@ use Rattle.desk_model.specs.Replies.{plain_reply}
 use Rattle.desk_core.specs.Fields.{state_of}
 use Rattle.call_codec.specs.Answers.{line_answer}
 use Rattle.call_codec.specs.Lines.{line_item, asked_by_line}
+use Rattle.gds_session.specs.declared.degrees.WriteStop.TheVariants as stop
 use Rattle.gds_session.specs.Serving.{Halts, TookFront, moment}
-use Rattle.gds_session.proofs.ServingLemmas.{blank_asks, line_asks, serves_nothing, halts_one, if_err}
+use Rattle.gds_session.proofs.ServingLemmas.{blank_asks, line_asks, serves_nothing, halts_one, on_err}
 use Rattle.gds_session.proofs.serving.serve_line.Goals as goal
 
 pub returns-then-is_blank-clause-ok : goal.returns-then-is_blank-clause-ok
@@ -19,10 +20,10 @@ returns-clause-err g c =
     let f = g.K.Keeper.faults c.args.desk.now.keeper in
     let h = g.K.Keeper.faults c.perform-reply.new.desk.keeper in
     let s = g.W.Sink.taken c.args.sink.now in
-    let t = g.W.Sink.taken c.answer.new.sink in
+    let t = g.W.Sink.taken c.answer_with.new.sink in
     let reply = plain_reply c.perform-reply.result in
-    if_err c.answer.result (λ why. TookFront why s t (line_answer reply)) (λ why. Halts why (asked_by_line c.args.line.now) (moment a f s) (moment b h t))
-    (λ why took.
+    on_err c.answer_with.result (TookFront s t (line_answer reply)) (Halts stop.Fault (asked_by_line c.args.line.now) (moment a f s) (moment b h t))
+    (λ took.
     rw (line_asks c.args.line.now c.requires (sym c.is_blank.ensures ∙ c.if-is_blank.false))
-    (halts_one why (line_item c.args.line.now) reply a b f h s t c.perform-reply.ensures took))
-    c.answer.ensures.err
+    (halts_one (line_item c.args.line.now) reply a b f h s t c.perform-reply.ensures took))
+    c.answer_with.ensures.err
