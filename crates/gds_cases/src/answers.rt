@@ -3,11 +3,15 @@ use crate::refusals::refusal;
 use crate::stop::Stop;
 use crate::stores::Stores;
 use crate::words::{flag, name, number, small, tag, value, word};
-use call_codec::{answer_text, status_of};
+use call_codec::{answer_length, answer_write, status_of};
 use desk_model::{GraphLine, JobKind, JobLine, Reply};
+use gds_causes::MemSink;
 use graph_making::Captured;
 use graph_model::{ChangeReply, Column, List, Name, Shared};
 use std::alloc::Global;
+
+/// As many bytes as a write takes of an answer.
+const PIECE: usize = 64;
 
 /// The status and the text of a reply. `created FIRST NODES FIRST RELATIONSHIPS`, `set PAIRS` and `deleted NODES
 /// RELATIONSHIPS` are changes; `stored` and `streamed` columns of at most two rows, each an id and a value; `making NUMBER
@@ -27,14 +31,23 @@ fn shown(alloc: Global, reply: Reply) -> Result<String, Stop> {
     Ok(format!(in alloc; "{status} {text}")?)
 }
 
+// The text of the answer to a reply, written to a sink that has room for as many bytes as it is said to have.
+fn text_from(alloc: Global, reply: &Reply) -> Result<List<u8>, Stop> {
+    let room = answer_length(reply) as usize;
+    let Ok(mut sink) = MemSink::new(alloc, room, PIECE, Vec::new(alloc)) else {
+        return Err(Stop::Mem);
+    };
+    match answer_write(reply, &mut sink) {
+        Ok(()) => Ok(List::from_vec(Vec::from_slice(alloc, sink.bytes())?)),
+        Err(_) => Err(Stop::Io),
+    }
+}
+
 /// The text of a reply, which is gone then.
 pub(crate) fn text_of(alloc: Global, reply: Reply) -> Result<List<u8>, Stop> {
-    let text = answer_text(alloc, &reply);
+    let text = text_from(alloc, &reply);
     drop(reply);
-    match text {
-        Ok(text) => Ok(text),
-        Err(_) => Err(Stop::Mem),
-    }
+    text
 }
 
 fn reply(alloc: Global, stores: &Stores, asked: &str) -> Result<Reply, Stop> {

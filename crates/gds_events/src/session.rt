@@ -9,14 +9,18 @@ ghost use Rattle.gds_events.specs.Going.{IsSimple};
 
 use crate::event::{every_node, job_name, simple, tag};
 use crate::stop::Stop;
-use call_codec::answer_text;
+use call_codec::{answer_length, answer_write};
 use desk_core::{Asked, Built, Captured, Desk, Event, MakeSpec, Reply};
 use desk_model::laws::jobs_go_on;
+use gds_causes::MemSink;
 use graph_builder::Make;
 use graph_model::{List, Tag, TryClone};
 use std::alloc::Global;
 use std::marker::Model;
 use store_keeper::{Keeper, MemKeeper};
+
+/// As many bytes as a write takes of an answer.
+const PIECE: usize = 64;
 
 /// A job that was begun: its user, its number, what it captured, and what it was asked for.
 #[derive(Drop)]
@@ -170,11 +174,23 @@ impl<K: Keeper> Session<K> {
     }
 }
 
+// The text of the answer to a reply, written to a sink that has room for as many bytes as it is said to have.
+fn text_from(alloc: Global, reply: &Reply) -> Result<List<u8>, Stop> {
+    let room = answer_length(reply) as usize;
+    let Ok(mut sink) = MemSink::new(alloc, room, PIECE, Vec::new(alloc)) else {
+        return Err(Stop::Mem);
+    };
+    match answer_write(reply, &mut sink) {
+        Ok(()) => Ok(List::from_vec(Vec::from_slice(alloc, sink.bytes())?)),
+        Err(_) => Err(Stop::Io),
+    }
+}
+
 // The text of the answer to a reply, which is gone then.
 fn text_of(alloc: Global, reply: Reply) -> Result<List<u8>, Stop> {
-    let text = answer_text(alloc, &reply);
+    let text = text_from(alloc, &reply);
     drop(reply);
-    Ok(text?)
+    text
 }
 
 // The job that `GRAPH [as JOB]` asks for, with the name of its user and what it asks for twice.
