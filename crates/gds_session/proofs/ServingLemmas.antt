@@ -10,6 +10,7 @@ use Rattle.std.proofs.lemmas.List.{take-append-drop}
 use Rattle.std.specs.Prelude.{take, drop}
 use Rattle.std.specs.Prelude.{Result, Ok, Err, OnOk, OnErr, IfErr}
 use Rattle.std.specs.Result.{is_err}
+use Rattle.std.specs.Option.{option_map}
 use Rattle.gds_causes.specs.Faults.{Rose}
 use Rattle.gds_causes.specs.Front.{AppendsFront}
 use Rattle.graph_model.specs.declared.refusal.Refusal.{Refusal}
@@ -28,7 +29,7 @@ use Rattle.call_codec.specs.Answers.{line_answer}
 use Rattle.call_codec.specs.Lines.{Item, Calls, Refuses, line_item, is_blank, asked_by_line, most_line_bytes}
 use Rattle.gds_session.specs.declared.degrees.WriteStop.{WriteStop}
 use Rattle.gds_session.specs.declared.degrees.WriteStop.TheVariants as stop
-use Rattle.gds_session.specs.Serving.{IsAnswered, AreAnswered, IsBegun, is_flagged, Counts, IsOfShell, Leads, Moment, moment, Performs, Serves, TookFront, Halts, IsPending, asks_with, event_for, stopped_by}
+use Rattle.gds_session.specs.Serving.{IsAnswered, AreAnswered, IsBegun, is_flagged, Counts, IsOfShell, Leads, Moment, Performs, Serves, TookFront, Halts, IsFlushed, CountsBy, IsPending, asks_with, event_for, stopped_by}
 use Rattle.gds_session.proofs.Bytes.{Appends-more, Appends-nothing}
 
 -- ---- entries
@@ -93,7 +94,15 @@ serves_nothing now = record {
   answered = (refl, refl);
   leads = leads_nowhere now.state now.faults;
   appended = Appends-nothing now.taken;
+  flushed = inl (refl, refl);
+  calm = refl;
 }
+
+-- what was flushed stays so where nothing is taken
+flushed_on : (old mid new : Moment) → IsFlushed old mid → IsFlushed mid new → IsFlushed old new
+flushed_on old mid new first (inr all) = inr all
+flushed_on old mid new (inl kept) (inl same) = inl (same.0 ∙ kept.0, same.1 ∙ kept.1)
+flushed_on old mid new (inr all) (inl same) = inr (same.1 ∙ all ∙ ap (option_map length) (sym same.0))
 
 pub serves_on : (items others : List Item) (old mid new : Moment) → Serves items old mid → Serves others mid new → Serves (items ++ others) old new
 serves_on items others old mid new first second = record {
@@ -102,7 +111,13 @@ serves_on items others old mid new first second = record {
   answered = answered_on items others first.entries second.entries first.written second.written first.answered second.answered;
   leads = leads_on first.entries second.entries old.state mid.state new.state old.faults mid.faults new.faults first.leads second.leads;
   appended = Appends-more old.taken mid.taken new.taken first.written second.written first.appended second.appended;
+  flushed = flushed_on old mid new first.flushed second.flushed;
+  calm = second.calm ∙ first.calm;
 }
+
+counts_on : (why : WriteStop) (a b c : ℕ) → b ≡ a → CountsBy why b c → CountsBy why a c
+counts_on stop.Fault a b c same rose = rw (← same) rose
+counts_on stop.OutOfMemory a b c same stands = stands ∙ same
 
 pub halts_after : (why : WriteStop) (items others : List Item) (old mid new : Moment) → Serves items old mid → Halts why others mid new → Halts why (items ++ others) old new
 halts_after why items others old mid new first second = record {
@@ -118,6 +133,7 @@ halts_after why items others old mid new first second = record {
   unbegun = second.unbegun;
   leads = rw (append_assoc first.entries second.entries second.begun) (leads_on first.entries (second.entries ++ second.begun) old.state mid.state new.state old.faults mid.faults new.faults first.leads second.leads);
   appended = rw (append_assoc first.written second.written second.front) (Appends-more old.taken mid.taken new.taken first.written (second.written ++ second.front) first.appended second.appended);
+  counted = counts_on why old.write_faults mid.write_faults new.write_faults first.calm second.counted;
 }
 
 pub halts_before : (why : WriteStop) (items others : List Item) (old new : Moment) → Halts why items old new → Halts why (items ++ others) old new
@@ -134,6 +150,7 @@ halts_before why items others old new h = record {
   unbegun = h.unbegun;
   leads = h.leads;
   appended = h.appended;
+  counted = h.counted;
 }
 
 pub halts_unbegun : (items : List Item) (old new : Moment) → Serves items old new → Halts stop.OutOfMemory items old new
@@ -150,21 +167,30 @@ halts_unbegun items old new s = record {
   unbegun = (refl, refl);
   leads = rw (append-nil s.entries) s.leads;
   appended = rw (append-nil s.written) s.appended;
+  counted = s.calm;
 }
 
 -- ---- one line
 
-pub serves_one : (item : Item) (reply : PlainReply) (a b : State) (f g : ℕ) (s t : Option (List ℕ)) → Performs item reply a b f g → Appends s t (line_answer reply) → Serves (item ∷ []) (moment a f s) (moment b g t)
-serves_one item reply a b f g s t p appended = record {
+-- what a sink told before and after an answer that was written and flushed
+pub record Answered (old new : Moment) (text : List ℕ) : Type 0 where
+  pub appended : Appends old.taken new.taken text
+  pub flushed : new.flushed ≡ option_map length new.taken
+  pub calm : new.write_faults ≡ old.write_faults
+
+pub serves_one : (item : Item) (reply : PlainReply) (old new : Moment) → Performs item reply old.state new.state old.faults new.faults → Answered old new (line_answer reply) → Serves (item ∷ []) old new
+serves_one item reply old new p done = record {
   entries = p.entries;
   written = line_answer reply;
   answered = (p.entries, [], reply, [], sym (append-nil p.entries), p.answered, sym (append-nil (line_answer reply)), (refl, refl));
   leads = p.leads;
-  appended = appended;
+  appended = done.appended;
+  flushed = inr done.flushed;
+  calm = done.calm;
 }
 
-pub halts_one : (item : Item) (reply : PlainReply) (a b : State) (f g : ℕ) (s t : Option (List ℕ)) → Performs item reply a b f g → TookFront s t (line_answer reply) → Halts stop.Fault (item ∷ []) (moment a f s) (moment b g t)
-halts_one item reply a b f g s t p took = record {
+pub halts_one : (item : Item) (reply : PlainReply) (old new : Moment) → Performs item reply old.state new.state old.faults new.faults → TookFront old.taken new.taken (line_answer reply) → Rose old.write_faults new.write_faults → Halts stop.Fault (item ∷ []) old new
+halts_one item reply old new p took rose = record {
   done = [];
   left = item ∷ [];
   entries = [];
@@ -177,6 +203,7 @@ halts_one item reply a b f g s t p took = record {
   unbegun = tt;
   leads = p.leads;
   appended = took.2;
+  counted = rose;
 }
 
 -- ---- the desk's step
@@ -315,6 +342,15 @@ if_err (Err why) P Q then h = then why h
 pub on_err : {T E : Type 0} (r : Result T E) (P Q : Type 0) → (P → Q) → OnErr r P → OnErr r Q
 on_err (Ok done) P Q then h = tt
 on_err (Err why) P Q then h = then h
+
+pub answered_ok : {T E : Type 0} (r : Result T E) (old new : Moment) (text : List ℕ) → OnOk r (Appends old.taken new.taken text) → OnOk r (new.flushed ≡ option_map length new.taken)
+    → OnOk r (new.write_faults ≡ old.write_faults) → OnOk r (Answered old new text)
+answered_ok (Ok done) old new text appended flushed calm = record { appended = appended; flushed = flushed; calm = calm }
+answered_ok (Err why) old new text appended flushed calm = tt
+
+pub both_err : {T E : Type 0} (r : Result T E) (P Q R : Type 0) → (P → Q → R) → OnErr r P → OnErr r Q → OnErr r R
+both_err (Ok done) P Q R then p q = tt
+both_err (Err why) P Q R then p q = then p q
 
 pub at_err : {T E : Type 0} {P : Type 0} (r : Result T E) → P → OnErr r P
 at_err (Ok done) h = tt

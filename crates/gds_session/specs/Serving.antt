@@ -8,6 +8,8 @@
 --   ShellEnds end ..                    how a shell ends
 use Rattle.std.specs.Prelude.{◌≡◌, ◌⊎◌, ℕ, ◌+◌, ◌-◌, ◌^◌, ◌<◌, ◌≤◌, min, Bool, true, false, List, [], ◌∷◌, ◌++◌, length, count_by, Option, Some, None, Result, Ok, Err}
 use Rattle.std.specs.Io.KnownBytes.{Appends, Consumes, IsAtEnd}
+use Rattle.std.specs.Option.{option_map}
+use Rattle.gds_causes.specs.Faults.{Rose}
 use Rattle.std.specs.List.{AllByRecursion, list_any}
 use Rattle.graph_model.specs.declared.refusal.Refusal.TheVariants as refusal
 use Rattle.graph_model.specs.declared.refusal.LongPart.TheVariants as long
@@ -71,14 +73,22 @@ pub record Leads (entries : List HistoryEntry) (opening closing : State) (faults
   pub state : closing ≡ state_after opening entries
   pub counted : Counts entries faults_before faults_after
 
--- a moment of a shell: the state that the desk stands for, its keeper's count of faults, and the bytes that the sink took
+-- a moment of a shell: the state that the desk stands for, its keeper's count of faults, the bytes that the sink took, how many
+-- of them were flushed, and the sink's count of faults
 pub record Moment : Type 0 where
   pub state : State
   pub faults : ℕ
   pub taken : Option (List ℕ)
+  pub flushed : Option ℕ
+  pub write_faults : ℕ
 
-abbrev pub moment : State → ℕ → Option (List ℕ) → Moment
-moment state faults taken = record { state = state; faults = faults; taken = taken }
+abbrev pub moment : State → ℕ → Option (List ℕ) → Option ℕ → ℕ → Moment
+moment state faults taken flushed write_faults =
+    record { state = state; faults = faults; taken = taken; flushed = flushed; write_faults = write_faults }
+
+-- all that a sink took was flushed since, or it took nothing
+abbrev pub IsFlushed : Moment → Moment → Type 0
+IsFlushed old new = ((new.taken ≡ old.taken) × (new.flushed ≡ old.flushed)) ⊎ (new.flushed ≡ option_map length new.taken)
 
 -- a reply answers an item, by entries that led from one state to another
 pub record Performs (item : Item) (reply : PlainReply) (opening closing : State) (faults_before faults_after : ℕ) : Type 0 where
@@ -86,13 +96,15 @@ pub record Performs (item : Item) (reply : PlainReply) (opening closing : State)
   pub answered : IsAnswered item entries reply
   pub leads : Leads entries opening closing faults_before faults_after
 
--- all items were answered
+-- all items were answered, and the answers flushed, without a fault of the sink
 pub record Serves (items : List Item) (old new : Moment) : Type 0 where
   pub entries : List HistoryEntry
   pub written : List ℕ
   pub answered : AreAnswered items entries written
   pub leads : Leads entries old.state new.state old.faults new.faults
   pub appended : Appends old.taken new.taken written
+  pub flushed : IsFlushed old new
+  pub calm : new.write_faults ≡ old.write_faults
 
 -- where no memory was to be had the next item wasn't begun: no entry was made and nothing was written
 abbrev pub IsUnbegun : WriteStop → List HistoryEntry → List ℕ → Type 0
@@ -107,6 +119,11 @@ TookFront before after text = (front : List ℕ) × IsFront front text × Append
 abbrev pub stopped_by : {A E : Type 0} → Result A E → Result A WriteStop
 stopped_by (Ok value) = Ok value
 stopped_by (Err why) = Err stop.Fault
+
+-- a sink's count of faults rose where a write or a flush failed, and stands where no memory was to be had
+abbrev pub CountsBy : WriteStop → ℕ → ℕ → Type 0
+CountsBy stop.Fault before after = Rose before after
+CountsBy stop.OutOfMemory before after = after ≡ before
 
 -- a front of the items was answered; then it stopped: at a fault maybe with the entries of the next item made and a front of its
 -- answer written, and for want of memory before the next item
@@ -123,6 +140,7 @@ pub record Halts (why : WriteStop) (items : List Item) (old new : Moment) : Type
   pub unbegun : IsUnbegun why begun front
   pub leads : Leads (entries ++ begun) old.state new.state old.faults new.faults
   pub appended : Appends old.taken new.taken (written ++ front)
+  pub counted : CountsBy why old.write_faults new.write_faults
 
 -- whether the input counts as ended where the source tells what it has left
 abbrev pub EndsWith : Bool → Option (List ℕ) → Type 0

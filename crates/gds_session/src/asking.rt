@@ -1,5 +1,5 @@
 // A shell: lines of JSON that are read, performed and answered.
-ghost use Rattle.std.specs.Prelude.{◌≡◌, ◌<◌, ◌≤◌, [], length};
+ghost use Rattle.std.specs.Prelude.{◌≡◌, ◌≢◌, ◌<◌, ◌≤◌, [], length};
 ghost use Rattle.gds_causes.specs.Faults.{Rose};
 ghost use Rattle.desk_core.specs.Fields.{state_of};
 ghost use Rattle.gds_session.specs.Serving.{EndsBy, IsTaken, Shelled, Turned, asks_with, end_of_read, end_of_stop, moment};
@@ -50,9 +50,10 @@ fn serve_last<W: Sink, K: Keeper>(
     pending: &mut Pending,
 ) -> End
     ensures ends { EndsBy result (asks_with pending.old.long pending.old.bytes.items [])
-        (moment (state_of desk.old) (K.faults desk.old.keeper) (W.taken sink.old))
-        (moment (state_of desk.new) (K.faults desk.new.keeper) (W.taken sink.new)) }
+        (moment (state_of desk.old) (K.faults desk.old.keeper) (W.taken sink.old) (W.flushed sink.old) (W.faults sink.old))
+        (moment (state_of desk.new) (K.faults desk.new.keeper) (W.taken sink.new) (W.flushed sink.new) (W.faults sink.new)) }
     ensures fault { result ≡ End.WriteFault → Rose (W.faults sink.old) (W.faults sink.new) }
+    ensures path { K.path desk.new.keeper ≡ K.path desk.old.keeper }
     ensures later { W.faults sink.old ≤ W.faults sink.new }
 {
     match serve_whole(alloc, sink, desk, pending, &[]) {
@@ -76,12 +77,14 @@ fn take_turn<S: Source, W: Sink, K: Keeper>(
     requires fresh { bytes.old.items ≡ [] }
     ensures turned { Turned result (length piece.old) (S.remaining source.old) (S.remaining source.new)
         pending.old.long pending.old.bytes.items pending.new.long pending.new.bytes.items
-        (moment (state_of desk.old) (K.faults desk.old.keeper) (W.taken sink.old))
-        (moment (state_of desk.new) (K.faults desk.new.keeper) (W.taken sink.new)) }
+        (moment (state_of desk.old) (K.faults desk.old.keeper) (W.taken sink.old) (W.flushed sink.old) (W.faults sink.old))
+        (moment (state_of desk.new) (K.faults desk.new.keeper) (W.taken sink.new) (W.flushed sink.new) (W.faults sink.new)) }
     ensures taken { IsTaken result (length piece.old) }
     ensures read_fault { result ≡ Turn.Over End.ReadFault → Rose (S.faults source.old) (S.faults source.new) }
     ensures write_fault { result ≡ Turn.Over End.WriteFault → Rose (W.faults sink.old) (W.faults sink.new) }
+    ensures reads_calm { result ≢ Turn.Over End.ReadFault → S.faults source.new ≡ S.faults source.old }
     ensures reads_later { S.faults source.old ≤ S.faults source.new }
+    ensures path { K.path desk.new.keeper ≡ K.path desk.old.keeper }
     ensures writes_later { W.faults sink.old ≤ W.faults sink.new }
 {
     match read_piece(source, piece, bytes) {
@@ -108,13 +111,15 @@ pub fn shell<S: Source, W: Sink, K: Keeper>(
 ) -> End
     // What was read, which entries performed it, what was written, and how it ended by that.
     ensures served { Shelled result budget (S.remaining source.old) (S.remaining source.new)
-        (moment (state_of desk.old) (K.faults desk.old.keeper) (W.taken sink.old))
-        (moment (state_of desk.new) (K.faults desk.new.keeper) (W.taken sink.new)) }
+        (moment (state_of desk.old) (K.faults desk.old.keeper) (W.taken sink.old) (W.flushed sink.old) (W.faults sink.old))
+        (moment (state_of desk.new) (K.faults desk.new.keeper) (W.taken sink.new) (W.flushed sink.new) (W.faults sink.new)) }
 
-    // A fault comes only where the object's count rose.
+    // A fault comes only where the object's count rose, and the source's rises for no other end; `served` says it of the sink.
     ensures read_fault { result ≡ End.ReadFault → Rose (S.faults source.old) (S.faults source.new) }
+    ensures reads_calm { result ≢ End.ReadFault → S.faults source.new ≡ S.faults source.old }
     ensures write_fault { result ≡ End.WriteFault → Rose (W.faults sink.old) (W.faults sink.new) }
     ensures reads_later { S.faults source.old ≤ S.faults source.new }
+    ensures path { K.path desk.new.keeper ≡ K.path desk.old.keeper }
     ensures writes_later { W.faults sink.old ≤ W.faults sink.new }
 {
     let Ok(mut piece) = make_piece(alloc) else {

@@ -1,5 +1,5 @@
 // Reading a source to its end, within a budget.
-ghost use Rattle.std.specs.Prelude.{◌≡◌, ◌+◌, ◌<◌, ◌≤◌, [], ◌++◌, length, Ok, Err, IfOk, OnOk, OnErr, IfErr, vec_len, take, drop};
+ghost use Rattle.std.specs.Prelude.{◌≡◌, ◌≢◌, ◌+◌, ◌<◌, ◌≤◌, [], ◌++◌, length, Ok, Err, IfOk, OnOk, OnErr, IfErr, vec_len, take, drop};
 ghost use Rattle.std.specs.Io.KnownBytes.{Consumes, IsAtEnd, Keeps, ReadConsumes};
 ghost use Rattle.gds_causes.specs.Faults.{Rose};
 ghost use Rattle.gds_session.specs.Ending.{ReadPiece};
@@ -32,6 +32,7 @@ pub(crate) fn read_piece<S: Source>(
     ensures bytes { ReadPiece (S.remaining source.old) (S.remaining source.new) bytes.old.items bytes.new.items result }
     ensures fault { result ≡ Err ReadStop.Fault → Rose (S.faults source.old) (S.faults source.new) }
     ensures budget { result ≡ Err ReadStop.Spent → ⊥ }
+    ensures calm { result ≢ Err ReadStop.Fault → S.faults source.new ≡ S.faults source.old }
     ensures later { S.faults source.old ≤ S.faults source.new }
 {
     if bytes.reserve(piece.len()).is_err() {

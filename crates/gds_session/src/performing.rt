@@ -38,7 +38,8 @@ fn asked_by(user: Tag, call: Call) -> Asked
 /// Answers what a line asks, on the desk or by its refusal.
 pub(crate) fn perform<K: Keeper>(alloc: Global, desk: &mut Desk<K>, line: &[u8]) -> Reply
     requires { length line.now ≤ most_line_bytes }
-    ensures { Performs (line_item line.now) (plain_reply result) (state_of desk.old) (state_of desk.new) (K.faults desk.old.keeper) (K.faults desk.new.keeper) }
+    ensures performs { Performs (line_item line.now) (plain_reply result) (state_of desk.old) (state_of desk.new) (K.faults desk.old.keeper) (K.faults desk.new.keeper) }
+    ensures path { K.path desk.new.keeper ≡ K.path desk.old.keeper }
 {
     match line_call(alloc, line) {
         Ok((user, call)) => desk.apply(alloc, asked_by(user, call)),

@@ -117,13 +117,14 @@ fn serve_line<W: Sink, K: Keeper>(
 ) -> Result<(), Failed>
     requires { length line.now ≤ most_line_bytes }
     ensures ok { OnOk result (Serves (asked_by_line line.now)
-        (moment (state_of desk.old) (K.faults desk.old.keeper) (W.taken sink.old))
-        (moment (state_of desk.new) (K.faults desk.new.keeper) (W.taken sink.new))) }
+        (moment (state_of desk.old) (K.faults desk.old.keeper) (W.taken sink.old) (W.flushed sink.old) (W.faults sink.old))
+        (moment (state_of desk.new) (K.faults desk.new.keeper) (W.taken sink.new) (W.flushed sink.new) (W.faults sink.new))) }
     ensures err { OnErr result (Halts stop.Fault (asked_by_line line.now)
-        (moment (state_of desk.old) (K.faults desk.old.keeper) (W.taken sink.old))
-        (moment (state_of desk.new) (K.faults desk.new.keeper) (W.taken sink.new))) }
+        (moment (state_of desk.old) (K.faults desk.old.keeper) (W.taken sink.old) (W.flushed sink.old) (W.faults sink.old))
+        (moment (state_of desk.new) (K.faults desk.new.keeper) (W.taken sink.new) (W.flushed sink.new) (W.faults sink.new))) }
     ensures fault { OnErr result (Rose (W.faults sink.old) (W.faults sink.new)) }
     ensures calm { OnOk result (W.faults sink.new ≡ W.faults sink.old) }
+    ensures path { K.path desk.new.keeper ≡ K.path desk.old.keeper }
     ensures later { W.faults sink.old ≤ W.faults sink.new }
 {
     if is_blank(line) {
@@ -152,14 +153,15 @@ pub(crate) fn serve_whole<W: Sink, K: Keeper>(
     tail: &[u8],
 ) -> Result<(), WriteStop>
     ensures ok { OnOk result (Serves (asks_with pending.old.long pending.old.bytes.items tail.now)
-        (moment (state_of desk.old) (K.faults desk.old.keeper) (W.taken sink.old))
-        (moment (state_of desk.new) (K.faults desk.new.keeper) (W.taken sink.new))) }
+        (moment (state_of desk.old) (K.faults desk.old.keeper) (W.taken sink.old) (W.flushed sink.old) (W.faults sink.old))
+        (moment (state_of desk.new) (K.faults desk.new.keeper) (W.taken sink.new) (W.flushed sink.new) (W.faults sink.new))) }
     ensures err { IfErr result (λ why. Halts why (asks_with pending.old.long pending.old.bytes.items tail.now)
-        (moment (state_of desk.old) (K.faults desk.old.keeper) (W.taken sink.old))
-        (moment (state_of desk.new) (K.faults desk.new.keeper) (W.taken sink.new))) }
+        (moment (state_of desk.old) (K.faults desk.old.keeper) (W.taken sink.old) (W.flushed sink.old) (W.faults sink.old))
+        (moment (state_of desk.new) (K.faults desk.new.keeper) (W.taken sink.new) (W.flushed sink.new) (W.faults sink.new))) }
     ensures bytes { OnOk result (pending.new.bytes.items ≡ []) }
     ensures long { OnOk result (pending.new.long ≡ false) }
     ensures fault { result ≡ Err WriteStop.Fault → Rose (W.faults sink.old) (W.faults sink.new) }
+    ensures path { K.path desk.new.keeper ≡ K.path desk.old.keeper }
     ensures later { W.faults sink.old ≤ W.faults sink.new }
 {
     if pending.is_fresh() && tail.len() <= MOST_LINE_BYTES {
@@ -207,12 +209,13 @@ pub(crate) fn serve_piece<W: Sink, K: Keeper>(
     piece: &[u8],
 ) -> Result<(), WriteStop>
     ensures ok { OnOk result (ServesPiece pending.old.long pending.old.bytes.items piece.now pending.new.long pending.new.bytes.items
-        (moment (state_of desk.old) (K.faults desk.old.keeper) (W.taken sink.old))
-        (moment (state_of desk.new) (K.faults desk.new.keeper) (W.taken sink.new))) }
+        (moment (state_of desk.old) (K.faults desk.old.keeper) (W.taken sink.old) (W.flushed sink.old) (W.faults sink.old))
+        (moment (state_of desk.new) (K.faults desk.new.keeper) (W.taken sink.new) (W.flushed sink.new) (W.faults sink.new))) }
     ensures err { IfErr result (λ why. HaltsPiece why pending.old.long pending.old.bytes.items piece.now
-        (moment (state_of desk.old) (K.faults desk.old.keeper) (W.taken sink.old))
-        (moment (state_of desk.new) (K.faults desk.new.keeper) (W.taken sink.new))) }
+        (moment (state_of desk.old) (K.faults desk.old.keeper) (W.taken sink.old) (W.flushed sink.old) (W.faults sink.old))
+        (moment (state_of desk.new) (K.faults desk.new.keeper) (W.taken sink.new) (W.flushed sink.new) (W.faults sink.new))) }
     ensures fault { result ≡ Err WriteStop.Fault → Rose (W.faults sink.old) (W.faults sink.new) }
+    ensures path { K.path desk.new.keeper ≡ K.path desk.old.keeper }
     ensures later { W.faults sink.old ≤ W.faults sink.new }
 {
     let mut rest = piece;
