@@ -23,12 +23,13 @@ use Rattle.graph_model.specs.declared.refusal.Quantity.TheVariants as quantity
 use Rattle.graph_model.specs.Lists.{first_there, insert_in_order, in_order}
 use Rattle.graph_model.specs.Graph.{most_nodes, most_rels, most_values, value_count, node_value_count, rel_value_count, node_lives, is_node, is_rel, EndsLive}
 use Rattle.graph_model.specs.Change.{created_nodes, created_rels, named_ends, key_before, is_listed, pair_id, node_after, rel_after, keeps_node, keeps_ends, keeps_rel, after_change, change_answer, named_nodes, named_rels, node_missing, rel_missing, over_limit, refused_change, IsWellFormedChange}
-use Rattle.graph_store.specs.Slots.{slot_at, living, IsNumbered, kept, slot_count}
-use Rattle.graph_store.specs.Stored.{node_id, rel_id, graph_of, IsSound}
+use Rattle.store_tables.specs.Slots.{slot_at, living, IsNumbered, kept, slot_count}
+use Rattle.graph_store.specs.Stored.{node_id, graph_of, IsSound}
+use Rattle.store_tables.specs.Links.{rel_id}
 use Rattle.graph_store.specs.Missing.{is_dead, IsMadeBy, new_node_values, new_rel_values, over_limits_with}
 use Rattle.graph_store.specs.Created.{created_node, created_rel}
 use Rattle.graph_store.specs.Edits.{is_unlisted, ends_live, WeighsSame}
-use Rattle.graph_store.proofs.SlotLemmas.{id-at, IsNumbered-map, IsNumbered-kept, IsNumbered-++, living-map, living-kept, living-++, find-living, living-map_Some, list_any-find, sum_by-living, sum_by-ones}
+use Rattle.store_tables.proofs.SlotLemmas.{id-at, IsNumbered-map, IsNumbered-kept, IsNumbered-++, living-map, living-kept, living-++, find-living, living-map_Some, list_any-find, sum_by-living, sum_by-ones}
 use Rattle.graph_store.proofs.ValidLaws.{after_valid, after_within}
 
 -- ---- which ids are missing

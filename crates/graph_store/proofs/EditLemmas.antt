@@ -7,11 +7,11 @@ use Rattle.std.specs.BTreeMap.{is_at}
 use Rattle.std.proofs.lemmas.Bool.{cases_Bool, cases_eq, eq-eqb, ne_eqb}
 use Rattle.graph_model.specs.declared.graph.Prop.{Prop}
 use Rattle.graph_model.specs.Change.{last_value, pair_id, is_listed}
-use Rattle.graph_store.specs.Slots.{slot_at, IsNumbered, kept, slot_count}
-use Rattle.graph_store.specs.Counted.{key_weight}
+use Rattle.store_tables.specs.Slots.{slot_at, IsNumbered, kept, slot_count}
+use Rattle.store_tables.specs.Counted.{key_weight}
 use Rattle.graph_store.specs.Edits.{edit_slot, gone, is_unlisted, set_by, with_value}
-use Rattle.graph_store.proofs.BoolFacts.{or-false, or-true, or-assoc}
-use Rattle.graph_store.proofs.SlotLemmas.{id-at, set-map}
+use Rattle.store_tables.proofs.BoolFacts.{or-false, or-true, or-assoc}
+use Rattle.store_tables.proofs.SlotLemmas.{id-at, set-map}
 use Rattle.graph_store.proofs.SettingLemmas.{add_times, is_at-nat, last_value-unlisted}
 
 -- ---- one more id is listed

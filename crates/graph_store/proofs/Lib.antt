@@ -1,14 +1,8 @@
-pub mod BoolFacts
-pub mod Joining
-pub mod ListFacts
-pub mod SlotLemmas
-pub mod Placing
 pub mod SettingLemmas
 pub mod EditLemmas
 pub mod OrderLemmas
-pub mod SearchLemmas
 pub mod ValidValues
 pub mod ValidLaws
 pub mod ChangeLemmas
-pub mod LinkLemmas
-pub mod CensusLemmas
+pub mod SourceLemmas
+pub mod NameCounts

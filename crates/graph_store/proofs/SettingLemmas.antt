@@ -11,9 +11,9 @@ use Rattle.std.specs.declared.cmp.Ordering.TheVariants.{Less, Equal, Greater}
 use Rattle.std.proofs.lemmas.List.Sums.{sum_by-cons}
 use Rattle.std.proofs.lemmas.Map.Lookups.{exact_bytes}
 use Rattle.std.proofs.Math.Nat.{mul-suc}
-use Rattle.graph_store.specs.Slots.{slot_at, slot_count}
-use Rattle.graph_store.specs.Counted.{key_weight}
-use Rattle.graph_store.proofs.SlotLemmas.{sum_by-set_slot}
+use Rattle.store_tables.specs.Slots.{slot_at, slot_count}
+use Rattle.store_tables.specs.Counted.{key_weight}
+use Rattle.store_tables.proofs.SlotLemmas.{sum_by-set_slot}
 use Rattle.graph_model.specs.declared.graph.Prop.{Prop}
 use Rattle.graph_model.specs.Lists.{first_there}
 use Rattle.graph_model.specs.Change.{place_prop, set_prop, last_value, value_for, pair_id, is_listed}

@@ -19,7 +19,7 @@ use Rattle.graph_model.specs.declared.refusal.Quantity.TheVariants as quantity
 use Rattle.graph_model.specs.Lists.{Pairwise, first_there}
 use Rattle.graph_model.specs.Graph.{most_nodes, most_rels, most_values, value_count, node_lives, is_node, NodeBefore, RelBefore, NodeBelow, RelBelow, EndsLive, HasOrderedLabels, HasOrderedKeys, IsValidGraph, IsWithinLimits}
 use Rattle.graph_model.specs.Change.{created_nodes, created_rels, place_id, node_after, rel_after, is_listed, keeps_node, keeps_ends, keeps_rel, after_change, named_id, named_ends, node_missing, missing_entity, over_limit, over_limits, refused_change, last_value, IsDistinctNode, IsDistinctRel, IsPlaceBelow, IsWellFormedChange}
-use Rattle.graph_store.proofs.ListFacts.{AllByRecursion-weaker, AllByRecursion-++, AllByRecursion-map, AllByRecursion-filter, Pairwise-map, Pairwise-filter, Pairwise-++, list_any-map, list_any-++}
+use Rattle.store_tables.proofs.ListFacts.{AllByRecursion-weaker, AllByRecursion-++, AllByRecursion-map, AllByRecursion-filter, Pairwise-map, Pairwise-filter, Pairwise-++, list_any-map, list_any-++}
 use Rattle.graph_store.proofs.ValidValues.{labels_ascend, props_ascend, set_if_there_ascends}
 
 -- ---- which nodes live

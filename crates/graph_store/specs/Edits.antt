@@ -3,7 +3,7 @@ use Rattle.std.specs.Prelude.{◌≡◌, ℕ, ◌+◌, sum_by, ℤ, Bool, not, �
 use Rattle.graph_model.specs.declared.graph.Node.{Node}
 use Rattle.graph_model.specs.declared.graph.Rel.{Rel}
 use Rattle.graph_model.specs.declared.graph.Prop.{Prop}
-use Rattle.graph_store.specs.Slots.{slot_at, slot_count}
+use Rattle.store_tables.specs.Slots.{slot_at, slot_count}
 use Rattle.graph_model.specs.Change.{set_prop, set_if_there, last_value, is_listed}
 
 -- what becomes of a slot: an element of a listed id is edited

@@ -9,7 +9,7 @@ use Rattle.graph_model.specs.declared.refusal.Quantity.TheVariants as quantity
 use Rattle.graph_model.specs.Lists.{first_there}
 use Rattle.graph_model.specs.Graph.{most_nodes, most_rels, most_values, value_count}
 use Rattle.graph_model.specs.Change.{after_change, refused_change, over_limit}
-use Rattle.graph_store.specs.Slots.{slot_at}
+use Rattle.store_tables.specs.Slots.{slot_at}
 
 -- whether nothing lives under an id
 abbrev pub is_dead : {A : Type 0} → List (Option A) → ℕ → Bool

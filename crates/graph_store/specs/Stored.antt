@@ -4,15 +4,12 @@ use Rattle.graph_model.specs.declared.graph.Node.{Node}
 use Rattle.graph_model.specs.declared.graph.Rel.{Rel}
 use Rattle.graph_model.specs.declared.graph.PropertyGraph.{PropertyGraph}
 use Rattle.graph_model.specs.Graph.{value_count, IsValidGraph, IsWithinLimits}
-use Rattle.graph_store.specs.Slots.{living, IsNumbered}
+use Rattle.store_tables.specs.Slots.{living, IsNumbered}
+use Rattle.store_tables.specs.Links.{rel_id}
 
 -- the id of a node
 abbrev pub node_id : Node → ℕ
 node_id node = node.id
-
--- the id of a relationship
-abbrev pub rel_id : Rel → ℕ
-rel_id rel = rel.id
 
 -- the graph of the elements that live: each id that was ever given has a slot
 abbrev pub graph_of : List (Option Node) → List (Option Rel) → PropertyGraph

@@ -1,12 +1,8 @@
 -- What a store tells of its graph.
-use Rattle.std.specs.Prelude.{ℕ, ◌==◌, Bool, List, map, filter}
-use Rattle.graph_model.specs.declared.graph.Rel.{Rel}
+use Rattle.std.specs.Prelude.{ℕ, List, map, filter}
 use Rattle.graph_model.specs.declared.graph.PropertyGraph.{PropertyGraph}
-use Rattle.graph_store.specs.Stored.{node_id, rel_id}
-
--- whether a relationship begins at a node
-abbrev pub begins_at : ℕ → Rel → Bool
-begins_at id rel = rel.source == id
+use Rattle.store_tables.specs.Links.{rel_id, begins_at}
+use Rattle.graph_store.specs.Stored.{node_id}
 
 -- the ids of the nodes, ascending
 abbrev pub node_ids : PropertyGraph → List ℕ

@@ -4,10 +4,8 @@ ghost use Rattle.std.specs.List.{find, flat_map};
 ghost use Rattle.graph_model.specs.Change.{named_ends, named_id, pair_id};
 ghost use Rattle.graph_store.specs.Missing.{is_dead, new_node_values, new_rel_values};
 
-use crate::slot::Slot;
-use crate::slots::live_at;
-use crate::table::Table;
 use graph_model::{NewNode, NewRel, Node, Place};
+use store_tables::{Slot, Table, live_at};
 
 /// The first id of a list under which nothing lives.
 pub(crate) fn missing_id<E>(slots: &Table<Slot<E>>, ids: &[u32]) -> Option<u32>

@@ -5,10 +5,9 @@ ghost use Rattle.graph_model.specs.Change.{IsDistinctNode, IsDistinctRel, IsPlac
 ghost use Rattle.graph_store.specs.Created.{created_node, created_rel};
 
 use crate::ordering::{ordered_labels, ordered_props};
-use crate::slot::Slot;
-use crate::table::Table;
 use graph_model::{List, Mem, NewNode, NewRel, Node, Place, Rel, TryClone};
 use std::alloc::Global;
+use store_tables::{Slot, Table};
 
 /// A new node, as it lives.
 fn create_node(alloc: Global, id: u32, new: &NewNode) -> Result<Slot<Node>, Mem>

@@ -5,16 +5,13 @@ ghost use Rattle.std.specs.Option.{option_map};
 ghost use Rattle.graph_model.specs.declared.graph.Rel.{Rel};
 ghost use Rattle.graph_model.specs.Refusals.{UnlessMem};
 ghost use Rattle.graph_store.specs.Missing.{is_dead};
-ghost use Rattle.graph_store.specs.Slots.{IsNumbered, slot_at, slot_count, kept};
+ghost use Rattle.store_tables.specs.Slots.{IsNumbered, slot_at, slot_count, kept};
 ghost use Rattle.graph_store.specs.Edits.{ends_live, is_unlisted, WeighsSame};
 
 use crate::checks::missing_id;
-use crate::element::Element;
-use crate::slot::Slot;
-use crate::slots::{live_at, shared_at};
-use crate::table::Table;
 use graph_model::{EntityKind, List, Mem, Node, Refusal, Rel, Shared, TryClone};
 use std::alloc::Global;
+use store_tables::{Element, Slot, Table, live_at, shared_at};
 
 /// Nothing lives under an id any more. What lived there joins those that are gone.
 fn remove<E: Element>(

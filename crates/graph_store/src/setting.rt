@@ -7,19 +7,16 @@ ghost use Rattle.std.specs.BTreeMap.{get};
 ghost use Rattle.graph_model.specs.Change.{last_value, pair_id};
 ghost use Rattle.graph_model.specs.Refusals.{UnlessMem};
 ghost use Rattle.graph_store.specs.Missing.{is_dead};
-ghost use Rattle.graph_store.specs.Slots.{IsNumbered, slot_at, slot_count};
+ghost use Rattle.store_tables.specs.Slots.{IsNumbered, slot_at, slot_count};
 ghost use Rattle.graph_store.specs.Edits.{set_by, with_value};
-ghost use Rattle.graph_store.specs.Counted.{key_weight};
+ghost use Rattle.store_tables.specs.Counted.{key_weight};
 
 use crate::checks::missing_of_pairs;
-use crate::element::Element;
-use crate::slot::Slot;
-use crate::slots::live_at;
-use crate::table::Table;
 use crate::values::set_prop;
 use graph_model::{EntityKind, List, Mem, Name, Refusal, TryClone};
 use std::alloc::Global;
 use std::collections::BTreeMap;
+use store_tables::{Element, Slot, Table, live_at};
 
 /// The value of the last pair of each id.
 fn last_values(alloc: Global, pairs: &[(u32, i64)]) -> Result<BTreeMap<u32, i64>, Mem>

@@ -5,15 +5,11 @@ ghost use Rattle.std.specs.Option.{option_copied};
 ghost use Rattle.graph_model.specs.Graph.{IsValidGraph, IsWithinLimits, is_node, is_rel};
 ghost use Rattle.graph_store.specs.Told.{node_ids, rel_ids_from};
 
-use crate::census::Census;
-use crate::link::Links;
-use crate::slot::Slot;
-use crate::slots::{live_at, live_ids, slots_of, value_count};
-use crate::table::Table;
 use graph_model::{ChangeReply, List, Mem, Node, PropertyGraph, Rel, TryClone};
 use std::alloc::Global;
 use std::marker::Model;
 use std::snapshot::Snapshot as Before;
+use store_tables::{Census, Links, Slot, Table, live_at, live_ids, slots_of, value_count};
 
 /// A property graph that is valid and within the limits. Contracts see the graph.
 #[derive(Drop)]

@@ -1,5 +1,5 @@
 use Rattle.std.proofs.Common.{◌≡◌, ℕ, ◌+◌, map, take, sum_by}
-use Rattle.graph_store.specs.Slots.{slot_count}
+use Rattle.store_tables.specs.Slots.{slot_count}
 use Rattle.graph_store.specs.Edits.{edit_slot, gone}
 use Rattle.graph_store.proofs.deleting.remove_listed.Given as goal
 

@@ -1,7 +1,7 @@
 use Rattle.std.proofs.Common.{None, ◌∙◌, arith}
-use Rattle.graph_store.specs.Slots.{kept}
+use Rattle.store_tables.specs.Slots.{kept}
 use Rattle.graph_store.specs.Edits.{ends_live}
-use Rattle.graph_store.proofs.SlotLemmas.{set-front, get_or-front}
+use Rattle.store_tables.proofs.SlotLemmas.{set-front, get_or-front}
 use Rattle.graph_store.proofs.deleting.remove_loose.Goals as goal
 
 pub loop-row-preserved : goal.loop-row-preserved

@@ -1,6 +1,6 @@
 use Rattle.std.proofs.Common.{◌≡◌, ℕ, ◌+◌, ◌++◌, map, take, drop, sum_by}
 use Rattle.graph_model.specs.declared.graph.Rel.{Rel}
-use Rattle.graph_store.specs.Slots.{slot_count, kept}
+use Rattle.store_tables.specs.Slots.{slot_count, kept}
 use Rattle.graph_store.specs.Edits.{ends_live}
 use Rattle.graph_store.proofs.deleting.remove_loose.Given as goal
 

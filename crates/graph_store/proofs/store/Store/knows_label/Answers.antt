@@ -1,6 +1,6 @@
 use Rattle.std.proofs.Common.{◌∙◌}
-use Rattle.graph_store.specs.Counted.{node_classes, node_props}
-use Rattle.graph_store.proofs.CensusLemmas.{knows-class}
+use Rattle.store_tables.specs.Counted.{node_classes, node_props}
+use Rattle.graph_store.proofs.NameCounts.{knows-class}
 use Rattle.graph_store.proofs.store.Store.knows_label.Goals as goal
 
 pub returns : goal.returns

@@ -1,6 +1,6 @@
 use Rattle.std.proofs.Common.{◌∙◌}
-use Rattle.graph_store.specs.Counted.{rel_classes, rel_props}
-use Rattle.graph_store.proofs.CensusLemmas.{knows-key}
+use Rattle.store_tables.specs.Counted.{rel_classes, rel_props}
+use Rattle.graph_store.proofs.NameCounts.{knows-key}
 use Rattle.graph_store.proofs.store.Store.knows_rel_key.Goals as goal
 
 pub returns : goal.returns

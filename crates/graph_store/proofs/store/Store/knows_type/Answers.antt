@@ -1,5 +1,5 @@
 use Rattle.std.proofs.Common.{◌∙◌}
-use Rattle.graph_store.proofs.CensusLemmas.{knows-type}
+use Rattle.graph_store.proofs.NameCounts.{knows-type}
 use Rattle.graph_store.proofs.store.Store.knows_type.Goals as goal
 
 pub returns : goal.returns

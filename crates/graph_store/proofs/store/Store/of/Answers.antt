@@ -1,7 +1,7 @@
 use Rattle.std.specs.List.{AllByRecursion}
 use Rattle.graph_model.specs.Graph.{EndsLive}
-use Rattle.graph_store.specs.Slots.{living}
-use Rattle.graph_store.proofs.LinkLemmas.{source_below}
+use Rattle.store_tables.specs.Slots.{living}
+use Rattle.graph_store.proofs.SourceLemmas.{source_below}
 use Rattle.graph_store.proofs.store.Store.of.Goals as goal
 
 pub extended-requires-clause-sources : goal.extended-requires-clause-sources

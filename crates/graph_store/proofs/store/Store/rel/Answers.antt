@@ -1,6 +1,6 @@
 use Rattle.std.proofs.Common.{sym, ◌∙◌, arith}
-use Rattle.graph_store.specs.Stored.{rel_id}
-use Rattle.graph_store.proofs.SlotLemmas.{find-living}
+use Rattle.store_tables.specs.Links.{rel_id}
+use Rattle.store_tables.proofs.SlotLemmas.{find-living}
 use Rattle.graph_store.proofs.store.Store.rel.Goals as goal
 
 pub returns : goal.returns

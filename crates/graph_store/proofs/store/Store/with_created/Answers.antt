@@ -1,6 +1,6 @@
-use Rattle.graph_store.specs.Counted.{node_classes, rel_classes, node_props, rel_props}
-use Rattle.graph_store.proofs.CensusLemmas.{counted-front}
-use Rattle.graph_store.proofs.LinkLemmas.{source_below}
+use Rattle.store_tables.specs.Counted.{node_classes, rel_classes, node_props, rel_props}
+use Rattle.graph_store.proofs.NameCounts.{counted-front}
+use Rattle.graph_store.proofs.SourceLemmas.{source_below}
 use Rattle.std.proofs.Common.{◌≡◌, Some, None, sym, ◌∙◌, arith}
 use Rattle.std.specs.List.{find, flat_map}
 use Rattle.std.proofs.lemmas.Result.{err_from_is_err_and}

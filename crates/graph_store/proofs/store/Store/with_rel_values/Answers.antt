@@ -1,8 +1,8 @@
-use Rattle.graph_store.specs.declared.census.Census.{Census}
-use Rattle.graph_store.specs.Counted.{node_classes, rel_classes, node_props, rel_props}
-use Rattle.graph_store.proofs.CensusLemmas.{values-grown, counted-set, counted-same}
+use Rattle.store_tables.specs.declared.census.Census.{Census}
+use Rattle.store_tables.specs.Counted.{node_classes, rel_classes, node_props, rel_props}
+use Rattle.graph_store.proofs.NameCounts.{values-grown, counted-set, counted-same}
 use Rattle.std.proofs.Common.{ap, length}
-use Rattle.graph_store.proofs.LinkLemmas.{linked-after, mapped_length, set_keeps_sources}
+use Rattle.graph_store.proofs.SourceLemmas.{linked-after, mapped_length, set_keeps_sources}
 use Rattle.std.proofs.Common.{◌≡◌, Some, ◌∙◌, refl}
 use Rattle.std.proofs.lemmas.Result.{err_from_is_err_and}
 use Rattle.graph_model.specs.declared.change.Change.TheVariants.{SetRels}

@@ -1,7 +1,7 @@
-use Rattle.graph_store.specs.Counted.{node_classes, rel_classes, node_props, rel_props}
-use Rattle.graph_store.proofs.CensusLemmas.{counted-gone}
+use Rattle.store_tables.specs.Counted.{node_classes, rel_classes, node_props, rel_props}
+use Rattle.graph_store.proofs.NameCounts.{counted-gone}
 use Rattle.graph_store.specs.Edits.{ends_live}
-use Rattle.graph_store.proofs.LinkLemmas.{linked-after, mapped_length, kept_keeps_sources}
+use Rattle.graph_store.proofs.SourceLemmas.{linked-after, mapped_length, kept_keeps_sources}
 use Rattle.std.proofs.Common.{arith}
 use Rattle.std.proofs.lemmas.Result.{err_from_is_err_and}
 use Rattle.graph_model.specs.declared.change.Change.TheVariants.{DeleteNodes}

@@ -1,10 +1,10 @@
-use Rattle.graph_store.specs.declared.census.Census.{Census}
-use Rattle.graph_store.specs.Counted.{node_classes, rel_classes, node_props, rel_props}
-use Rattle.graph_store.proofs.CensusLemmas.{counted-gone, counted-same}
+use Rattle.store_tables.specs.declared.census.Census.{Census}
+use Rattle.store_tables.specs.Counted.{node_classes, rel_classes, node_props, rel_props}
+use Rattle.graph_store.proofs.NameCounts.{counted-gone, counted-same}
 use Rattle.std.proofs.Common.{ap, length}
-use Rattle.graph_store.specs.Stored.{rel_id}
+use Rattle.store_tables.specs.Links.{rel_id}
 use Rattle.graph_store.specs.Edits.{is_unlisted}
-use Rattle.graph_store.proofs.LinkLemmas.{linked-after, mapped_length, kept_keeps_sources}
+use Rattle.graph_store.proofs.SourceLemmas.{linked-after, mapped_length, kept_keeps_sources}
 use Rattle.std.proofs.Common.{refl, arith}
 use Rattle.std.proofs.lemmas.Result.{err_from_is_err_and}
 use Rattle.graph_model.specs.declared.change.Change.TheVariants.{DeleteRels}

@@ -1,6 +1,0 @@
-use Rattle.std.specs.Vec.Iter.{into_iter_items}
-use Rattle.graph_store.proofs.Placing.{IsPlaced}
-use Rattle.graph_store.proofs.slots.slots_of.Given as goal
-
-abbrev pub invariant-loop-element : goal.invariant-loop-element
-invariant-loop-element g l = IsPlaced g.E.Element.id_of l.next l.fn.elements (into_iter_items l.element-iterator) l.slots

@@ -1,7 +1,0 @@
-use Rattle.std.proofs.Common.{◌≡◌, ℕ, ◌-◌, List, take}
-use Rattle.graph_store.specs.NameRows.{count_under}
-use Rattle.graph_store.specs.Counted.{times}
-use Rattle.graph_store.proofs.tally.Tally.minus_each.Given as goal
-
-abbrev pub invariant-loop-item : goal.invariant-loop-item
-invariant-loop-item g l = (other : List ℕ) → count_under l.tally other ≡ count_under l.fn.self other - times g.N.Named.name_of (take l.item-index l.items) other

@@ -1,0 +1,22 @@
+use Rattle.std.proofs.Common.{List, [], ◌<◌, ◌%◌, length, sym, subst, arith}
+use Rattle.std.proofs.lemmas.Result.{on_ok_weaker}
+use Rattle.store_tables.proofs.Joining.{row_within, row_set}
+use Rattle.store_tables.proofs.table.set_row.Goals as goal
+
+pub index_mut-branch-requires : goal.index_mut-branch-requires
+index_mut-branch-requires g c =
+    let there = row_within 1048576 c.args.branches.now.items c.args.row [] (omega arith) c.requires.full c.requires.within in
+    let long = c.args.branches.now.ok in omega (arith, there.0, long.0)
+
+pub set-requires : goal.set-requires
+set-requires g c =
+    let there = row_within 1048576 c.args.branches.now.items c.args.row c.index_mut-branch.result.now (omega arith) c.requires.full c.requires.within in
+    subst (λ (part : List g.row.T.Denot). c.args.row % 1048576 < length part) (sym c.index_mut-branch.ensures.value) there.1
+
+pub returns-clause-set : goal.returns-clause-set
+returns-clause-set g c =
+    on_ok_weaker c.set.result (λ e. rw e (row_set 1048576 c.args.branches.now.items c.args.row c.index_mut-branch.result.now c.args.item (omega arith) c.requires.full c.requires.within c.index_mut-branch.ensures.value).0) c.set.ensures.ok
+
+pub returns-clause-filled : goal.returns-clause-filled
+returns-clause-filled g c =
+    on_ok_weaker c.set.result (λ e. rw e (row_set 1048576 c.args.branches.now.items c.args.row c.index_mut-branch.result.now c.args.item (omega arith) c.requires.full c.requires.within c.index_mut-branch.ensures.value).1) c.set.ensures.ok
