@@ -73,28 +73,39 @@ fn new_cases(alloc: Global) -> Result<Cases, Stop> {
 }
 
 // Tries the rows of a text. Empty lines and comments are passed over.
-fn judge_all(rt: &HostRuntime, text: &str, count: &mut Count) -> Result<(), Stop> {
-    let mut cases = new_cases(rt.alloc())?;
+fn judge_all(
+    rt: &HostRuntime,
+    cases: &mut Cases,
+    text: &str,
+    count: &mut Count,
+) -> Result<(), Stop> {
     for row in text.lines() {
         if row.is_empty() || row.starts_with("#") {
             continue;
         }
-        match judge(rt, &mut cases, row, count) {
-            Ok(()) => {}
-            Err(Stop::Row) => {
-                eprintln!(rt; "gds_cases: this is no row: {row}")?;
-                return Err(Stop::Row);
-            }
-            Err(why) => return Err(why),
+        if let Err(why) = judge(rt, cases, row, count) {
+            eprintln!(rt; "gds_cases: the program ended at this row: {row}")?;
+            return Err(why);
         }
     }
     Ok(())
 }
 
-// Tries the rows of a text, and prints how many there were.
-fn judge_text(rt: &HostRuntime, name: &str, text: &str) -> Result<(), Stop> {
+// Tries the rows of a text on an empty store and no graphs, and counts them.
+fn judge_text(rt: &HostRuntime, text: &str) -> Result<Count, Stop> {
     let mut count = Count { rows: 0, differ: 0 };
-    judge_all(rt, text, &mut count)?;
+    let mut cases = new_cases(rt.alloc())?;
+    let judged = judge_all(rt, &mut cases, text, &mut count);
+    drop(cases);
+    match judged {
+        Ok(()) => Ok(count),
+        Err(why) => Err(why),
+    }
+}
+
+// Tries the rows of a text, and prints how many there were.
+fn tell(rt: &HostRuntime, name: &str, text: &str) -> Result<(), Stop> {
+    let count = judge_text(rt, text)?;
     println!(rt;
         "{name}: rows {}, rows that differ {}",
         count.rows, count.differ
@@ -107,11 +118,11 @@ fn run(rt: &HostRuntime) -> Result<(), Stop> {
     for word in env::args(rt)?.skip(1) {
         words = words.saturating_add(1);
         let text = fs::read_to_string(rt, word.as_str())?;
-        judge_text(rt, word.as_str(), text.as_str())?;
+        tell(rt, word.as_str(), text.as_str())?;
     }
     if words == 0 {
         let text = io::read_to_string(rt.alloc(), rt.stdin())?;
-        judge_text(rt, "standard input", text.as_str())?;
+        tell(rt, "standard input", text.as_str())?;
     }
     Ok(())
 }
